@@ -1,5 +1,5 @@
--- The calls of a server core beside those of its connection, what the queue goes through by them and by the rows of its
--- table, and which jobs are given over lists of calls.
+-- The calls of a server core besides those of its connection, the queue's happenings during them and at the rows of the table, and the jobs
+-- that are handed out over lists of calls.
 -- Source: this project's.
 use Rattle.std.specs.Prelude.{◌≡◌, ◌⊎◌, ℕ, List, [], ◌∷◌, ◌++◌, map, option_to_list, Option, Some, None, Result, Ok, Err}
 use Rattle.std.specs.List.{AllByRecursion, flat_map}
@@ -14,50 +14,50 @@ use Rattle.ttrpc_server.specs.Streaming.{EndsStream, IsCloseFrame, ReceivesOne, 
 use Rattle.ttrpc_connection.specs.Items.{IsDataFrame}
 use Rattle.ttrpc_server.specs.Protocol.{Answers, Drops, drained, Finishes, Hands, IsResponseFrame, QueuesResponse, Passes, due_jobs}
 
--- a call, with what it was given and what it gave
+-- A call, with its arguments and its result.
 pub data Served : Type 0 where
-  -- a job was asked for, and this came
+  -- a job was asked for, with this result
   Took : (job : Option Job) → Served
   -- a job was answered by this response
   Answered : (id : ℕ) → (response : Response) → Served
   -- a job's handler failed
   Dropped : (id : ℕ) → Served
-  -- a response was queued under a stream's id
+  -- a response was queued under a stream id
   Responded : (k : ℕ) → (response : Response) → Served
   -- a job was ended
   Finished : (id : ℕ) → Served
-  -- from then on it took no more of what came in
+  -- the core stopped taking input
   Drained : Served
-  -- a moment was told
+  -- a moment was reported
   Ticked : (now : ℕ) → Served
-  -- it was asked which job expired, and this came
+  -- the next expired job was asked for, with this result
   AskedExpired : (id : Option ℕ) → Served
-  -- an item was sent on the stream of a job, and got this ticket
+  -- an item was sent on the stream of a job, with this ticket
   SentItem : (id : ℕ) → (item : List ℕ) → (ticket : ℕ) → Served
-  -- the next item of the stream of a job was asked for, and this came
+  -- the next item of the stream of a job was asked for, with this result
   Received : (id : ℕ) → (given : Option (Result (List ℕ) Error)) → Served
   -- the receiver of the stream of a job was dropped
   ReceiverDropped : (id : ℕ) → Served
-  -- the stream of a job was ended so
+  -- the stream of a job was ended with this result of its handler
   Ended : (id : ℕ) → (end : Result (Option Response) Error) → Served
-  -- it was asked for which stream's job something came, and this came
+  -- the next stream's job for which something came was asked for, with this result
   AskedHeard : (id : Option ℕ) → Served
 
--- the core of this state and this connection
+-- Returns the core of this state and this connection.
 abbrev pub core : {O I : Type 0} → Server → Connection O I → ServerCore O I
 core state connection = record { state = state; connection = connection }
 
--- the first of the jobs that expired was told of, if there was one
+-- Holds if the first of the expired jobs was reported and removed, if there was one.
 pub record TellsExpired {O I : Type 0} (old : ServerCore O I) (id : Option ℕ) (new : ServerCore O I) : Type 0 where
   pub first : old.state.expired ≡ option_to_list id ++ new.state.expired
   pub same : new ≡ record old { state = record old.state { expired = new.state.expired } }
 
--- the first of the streams' jobs for which something came was told of, if there was one
+-- Holds if the first of the streams' jobs for which something came was reported and removed, if there was one.
 pub record TellsHeard {O I : Type 0} (old : ServerCore O I) (id : Option ℕ) (new : ServerCore O I) : Type 0 where
   pub first : old.state.heard ≡ option_to_list id ++ new.state.heard
   pub same : new ≡ record old { state = record old.state { heard = new.state.heard } }
 
--- what a call does to the core
+-- Holds if the call has this effect on the core.
 abbrev pub Performs : {O I : Type 0} → OutboundTransform O → Served → ServerCore O I → ServerCore O I → Type 0
 Performs out (Took (Some job)) old new = Hands old job new
 Performs out (Took None) old new = (new ≡ old) × (old.connection.failure ≡ None → NoneWaits old.state.jobs.list)
@@ -74,35 +74,35 @@ Performs out (ReceiverDropped id) old new = new ≡ unheard old id
 Performs out (Ended id end) old new = EndsStream out old id end new
 Performs out (AskedHeard id) old new = TellsHeard old id new
 
--- ---- what the queue goes through by it
+-- ---- the queue's happenings during a call
 
--- one response is queued, under this stream's id
+-- Holds if one response is queued, under this stream id.
 abbrev pub PlacesResponse : {O I : Type 0} → ℕ → ServerCore O I → ServerCore O I → List Happening → Type 0
 PlacesResponse k old new happenings =
     (f : Queued) × IsResponseFrame k f × Queues old.connection (f ∷ []) new.connection × (happenings ≡ Placed f ∷ [])
 
--- these were queued under those streams' ids, in order: for each at most one, which is a response
+-- Holds if these frames were queued for those stream ids, in order: for each id at most one frame, which is a response under it.
 abbrev pub AreAnswers : List ℕ → List Queued → Type 0
 AreAnswers [] queued = queued ≡ []
 AreAnswers (k ∷ ks) queued =
     AreAnswers ks queued
     ⊎ ((answer : Queued) × (others : List Queued) × IsResponseFrame k answer × (queued ≡ answer ∷ others) × AreAnswers ks others)
 
--- the streams' ids of the jobs that are due at a moment
+-- Returns the stream ids of the jobs that are due at a moment.
 abbrev pub streams_due : ℕ → Server → List ℕ
 streams_due now s = map (λ j. j.header.stream_id) (due_jobs now s.jobs.list)
 
--- one frame of this kind is queued
+-- Holds if one frame of this kind is queued.
 abbrev pub PlacesOne : {O I : Type 0} → (Queued → Type 0) → ServerCore O I → ServerCore O I → List Happening → Type 0
 PlacesOne is_such old new happenings = (f : Queued) × is_such f × Queues old.connection (f ∷ []) new.connection × (happenings ≡ Placed f ∷ [])
 
--- a frame that ends a stream: one that closes it, or a response
+-- Holds if this frame may end a stream with this result of its handler: a frame that closes the stream, or a response.
 abbrev pub IsEndFrame : Result (Option Response) Error → ℕ → Queued → Type 0
 IsEndFrame (Ok None) k f = IsCloseFrame k f
 IsEndFrame (Ok (Some r)) k f = IsResponseFrame k f
 IsEndFrame (Err e) k f = IsResponseFrame k f
 
--- what the queue goes through by a call
+-- Holds if the queue goes through these happenings during a call.
 abbrev pub Causes : {O I : Type 0} → Served → ServerCore O I → ServerCore O I → List Happening → Type 0
 Causes (Answered id response) old new happenings =
     (job : ActiveJob) × IsTaken old.state.jobs.list id job × PlacesResponse job.header.stream_id old new happenings
@@ -114,17 +114,17 @@ Causes (SentItem id item ticket) old new happenings =
 Causes (Ended id end) old new happenings = (job : ActiveJob) × IsTaken old.state.jobs.list id job × PlacesOne (IsEndFrame end job.header.stream_id) old new happenings
 Causes call old new happenings = happenings ≡ []
 
--- what such a call does, and what the queue goes through by it
+-- Holds if such a call has this effect, and the queue goes through these happenings.
 abbrev pub served : {O I : Type 0} → OutboundTransform O → Others Served Server O I
 served out a s old happenings t new = Performs out a (core s old) (core t new) × Causes a (core s old) (core t new) happenings
 
--- ---- what the queue goes through by the rows of the table
+-- ---- the queue's happenings at the rows of the table
 
--- the streams' ids of frames
+-- Returns the stream ids of frames.
 abbrev pub streams_of : List Incoming → List ℕ
 streams_of frames = map (λ f. (header_of_frame f).stream_id) frames
 
--- these were queued while a piece was fed: for the frames that were whole with a front of it
+-- Holds if these frames were queued while a piece was fed, for the frames that were whole with its first bytes.
 pub record AnswersPiece {O I : Type 0} (old : Connection O I) (piece : List ℕ) (queued : List Queued) (new : Connection O I) : Type 0 where
   pub taken : List ℕ
   pub rest : List ℕ
@@ -133,17 +133,17 @@ pub record AnswersPiece {O I : Type 0} (old : Connection O I) (piece : List ℕ)
   pub fed : Fed old.decoder taken frames new.decoder
   pub answers : AreAnswers (streams_of frames) queued
 
--- ---- which jobs are given
+-- ---- the jobs that are handed out
 
--- the id of the job that a call gave, if it gave one
+-- Returns the id of the job that a call handed out, if it handed one out.
 abbrev pub given_by : Call Served → List ℕ
 given_by (Did (Took (Some job))) = job.id ∷ []
 given_by call = []
 
--- the ids of the jobs that were given, in order
+-- Returns the ids of the jobs that were handed out, in order.
 abbrev pub ids_given : List (Call Served) → List ℕ
 ids_given calls = flat_map given_by calls
 
--- no job of this id waits
+-- Holds if no job of this id waits.
 abbrev pub WaitsNot : ℕ → List ActiveJob → Type 0
 WaitsNot id jobs = AllByRecursion (λ (j : ActiveJob). j.id ≡ id → j.request ≡ None) jobs

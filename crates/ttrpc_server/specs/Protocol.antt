@@ -1,8 +1,7 @@
--- The protocol of a server, from top to bottom: which row of the table a frame has, what the row does, what each call of
--- the core does, how jobs expire, and for what a call is refused. Which case a frame is and what each case does stands in `Table.antt`.
--- The kinds of frames, and that a request is answered by one response under its stream's id, are PROTOCOL.md's. What it
--- leaves open, which is codes, texts and which frames are passed over, is as the Rust crate has it. Jobs and the order of
--- refusals are this project's.
+-- The protocol of a server, from top to bottom: the row of a frame, the effect of a row, the effect of each call, jobs that expire, and the
+-- reasons for refusals. The cases of frames and the rows of the cases are in `Table.antt`. PROTOCOL.md defines the kinds of frames, and
+-- that a request is answered by one response under its stream id. The document leaves codes, texts and the ignored frames open, which are
+-- as in the Rust crate. Jobs and the order of refusals are this project's.
 -- Source: PROTOCOL.md of ttrpc, "Request" and "Response"; the Rust crate; this project's.
 use Rattle.std.specs.Prelude.{◌≡◌, ◌⊎◌, ℕ, ◌<◌, ◌≤◌, ◌+◌, ◌-◌, ◌^◌, List, [], ◌∷◌, ◌++◌, length, codes, min, Option, None, Some, Result, Ok, Err, Bool, true, nat_lt, if◌then◌else◌, ◌≢◌, filter, false, nat_le}
 use Rattle.std.specs.Fmt.{decimal}
@@ -25,62 +24,62 @@ use Rattle.ttrpc_server.specs.declared.server.ServerCore.{ServerCore}
 use Rattle.ttrpc_server.specs.State.{EndsOne, HandsOne, IsTaken, IsNoUnary, is_stream, Server, Services, jobs_at, new_server, put_in, stream_body, takes_on, unary_body, with_made, with_newest, without_payload, with_list, IsJob, deadline_in, waits}
 use Rattle.ttrpc_server.specs.Table.{Row, Ignore, MakeJob, MakeStream, PutIn, makes_job, SendCode, SendResponse, case_of, case_row, inlet_of, newest_after, status_response}
 
--- ---- which row a frame has
+-- ---- the row of a frame
 
--- the case of a frame in the state of a core
+-- Returns the case of a frame in the state of a core.
 abbrev pub case_in : Server → Arrived → Case
 case_in s a = case_of s.rules a.header a.opening s.jobs.newest (inlet_of (jobs_at s.jobs.list a.header.stream_id))
 
--- the row of a frame in the state of a core
+-- Returns the row of a frame in the state of a core.
 abbrev pub row_of : Server → Arrived → Row
 row_of s a = case_row s.rules s.services a.header (case_in s a)
 
--- the core that has seen a frame: a request that is read is the newest, whatever its row
+-- Returns the core that has seen a frame. Under async rules a request that is read is the newest, whatever its row.
 abbrev pub seen_by : Server → Arrived → Server
 seen_by s a = with_newest s (newest_after s.rules a.header.stream_id (case_in s a) s.jobs.newest)
 
 -- ---- how a response is sent: fitted to the limit, sealed, in a frame of its own
 -- Source: PROTOCOL.md of ttrpc, "Response"; limit and texts: the Rust crate.
 
--- such a response, whatever its message is
+-- Holds if the response is a status of this code, with any message.
 abbrev pub IsStatusResponse : Code → Response → Type 0
 IsStatusResponse code response = (message : List ℕ) × (response ≡ status_response code message)
 
--- the written form of a response
+-- Returns the written form of a response.
 abbrev pub response_bytes : Response → List ℕ
 response_bytes r = fields_bytes (response_fields r)
 
--- how long a response is, as far as 32 bits can say it
+-- Returns the length of a response, at most the greatest number of 32 bits.
 abbrev pub response_size : Response → ℕ
 response_size r = min (length (response_bytes r)) (2 ^ 32 - 1)
 
--- an answer may become longer than a message may be, as its caller is told
+-- Returns the text of the answer in place of a response of this length, which may become longer than a message may be.
 abbrev pub limit_text : ℕ → ℕ → List ℕ
 limit_text length limit = codes "response payload " ++ decimal length ++ codes " bytes exceeds safe limit " ++ decimal limit ++ codes " bytes (after transform overhead)"
 
--- the response, or one that says that it is above the limit
+-- Returns the response, or if it is above the limit, a status that states this.
 abbrev pub fit_to_limit : ℕ → Response → Response
 fit_to_limit limit r = if nat_lt limit (response_size r) then status_response INVALID_ARGUMENT (limit_text (response_size r) limit) else r
 
--- the response, or under async rules one that says that it is longer than a message may be
+-- Returns the response. Under async rules a response that is longer than a message may be is replaced by a status that states this.
 abbrev pub fit_to_message : Rules → Response → Response
 fit_to_message Sync r = r
 fit_to_message Async r = if nat_lt MESSAGE_LENGTH_MAX (response_size r) then status_response INVALID_ARGUMENT (oversize_text (response_size r)) else r
 
--- the response, or one that stands for it where it is too long
+-- Returns the response, or its replacement if it is too long.
 abbrev pub fitted : Rules → ℕ → Response → Response
 fitted rules limit r = fit_to_limit limit (fit_to_message rules r)
 
--- what a server adds to the text about the safe limit
+-- Returns the advice that a server adds to the text about the safe limit.
 abbrev pub advice : Rules → List ℕ
 advice Sync = []
 advice Async = advice_text
 
--- how many bytes the frame of a response may need: its header, the response as it is fitted, and what sealing may add
+-- Returns how many bytes the frame of a response may need: its header, the response as it is fitted, and the bytes that sealing may add.
 abbrev pub response_room : {O : Type 0} → Rules → OutboundTransform O → O → Response → ℕ
 response_room rules out o r = MESSAGE_HEADER_LENGTH + response_size (fitted rules (safe_limit out o) r) + out.overhead o
 
--- a frame that carries a response under a stream's id
+-- Holds if this is the frame for a response under a stream id.
 pub record IsResponseFrame (k : ℕ) (f : Queued) : Type 0 where
   pub stream_id : f.message.header.stream_id ≡ k
   pub type_ : f.message.header.type_ ≡ MESSAGE_TYPE_RESPONSE
@@ -89,34 +88,34 @@ pub record IsResponseFrame (k : ℕ) (f : Queued) : Type 0 where
   pub is_unary_request : f.is_unary_request ≡ Bool.false
   pub owner : f.owner ≡ 0
 
--- the response, as it is fitted to the limit, is what was sent, under a stream's id
+-- Holds if the response, as it is fitted to the limit, was sent under a stream id.
 pub record Responds (rules : Rules) (limit k : ℕ) (r : Response) (sent : List Sent) : Type 0 where
   pub frame : Queued
   pub is_frame : IsResponseFrame k frame
   pub fits : response_size (fitted rules limit r) ≤ limit
   pub is : sent ≡ record { frame = frame; plain = response_bytes (fitted rules limit r) } ∷ []
 
--- it is above the limit even so
+-- Holds if a response is above the limit even after it is fitted.
 abbrev pub IsAboveLimit : Rules → ℕ → Response → Type 0
 IsAboveLimit rules limit r = limit < response_size (fitted rules limit r)
 
--- the half may refuse it, for this reason
+-- Holds if the half may refuse a response for this reason.
 pub record IsUnsealed {O : Type 0} (rules : Rules) (out : OutboundTransform O) (o : O) (k : ℕ) (r : Response) (why : List ℕ) : Type 0 where
   pub frame : Queued
   pub is_frame : IsResponseFrame k frame
   pub fits : response_size (fitted rules (safe_limit out o) r) ≤ safe_limit out o
   pub refuses : out.refuses o (response_bytes (fitted rules (safe_limit out o) r)) (associated frame.message.header) why
 
--- the core's own answer is sent, or left out where it can't be
+-- Holds if the core's own answer was sent, or was left out because it can't be sent.
 abbrev pub SendsOwnAnswer : {O : Type 0} → Rules → OutboundTransform O → O → ℕ → Response → List Sent → Type 0
 SendsOwnAnswer rules out o k r sent =
     Responds rules (safe_limit out o) k r sent
     ⊎ ((sent ≡ []) × (IsAboveLimit rules (safe_limit out o) r ⊎ ((why : List ℕ) × IsUnsealed rules out o k r why)))
 
--- ---- what a row does
+-- ---- the effect of a row
 -- Source: PROTOCOL.md of ttrpc, "Request" and "Response".
 
--- what a row does with a frame of this header that came at this moment
+-- Holds if a row has this effect for a frame of this header that came at this moment.
 abbrev pub Does : {O : Type 0} → OutboundTransform O → Row → Server → O → MessageHeader → ℕ → List Sent → Server → Type 0
 Does out Ignore old o header now sent new = (new ≡ old) × (sent ≡ [])
 Does out (SendResponse r) old o header now sent new = (new ≡ old) × SendsOwnAnswer old.rules out o header.stream_id r sent
@@ -126,46 +125,46 @@ Does out (MakeStream request) old o header now sent new =
     (new ≡ with_made old header (without_payload request) (stream_body old.services.bare_openings header.flags request.payload)) × (sent ≡ [])
 Does out (PutIn payload) old o header now sent new = (new ≡ put_in old header payload) × (sent ≡ [])
 
--- what its row does with a frame that arrived, once the core has seen it
+-- Holds if the row of a frame has this effect, after the core has seen the frame.
 abbrev pub serves : {O : Type 0} → OutboundTransform O → Server → O → Arrived → List Sent → Server → Type 0
 serves out old o a sent new = Does out (row_of old a) (seen_by old a) o a.header a.now sent new
 
--- the row makes a job, and no job can get an id
+-- Holds if the row makes a job, and no id is left.
 pub record IsUsedUp (row : Row) (old : Server) (failure : Failure) : Type 0 where
   pub is_row : makes_job row ≡ true
   pub last : old.jobs.last ≡ 2 ^ 64 - 1
   pub failure_is : failure ≡ JobIdsUsedUp
 
--- the row of a frame that arrived makes a job, and no job can get an id
+-- Holds if the row of a frame makes a job, and no id is left.
 abbrev pub stops_serving : Server → Arrived → Failure → Type 0
 stops_serving old a failure = IsUsedUp (row_of old a) old failure
 
--- what the clauses know of a server core over these halves
+-- Returns the facts that clauses know about a server core over these halves.
 abbrev pub serving : {O I : Type 0} → OutboundTransform O → InboundTransform I → Ways Server O I
 serving out in_ = record { out = out; in_ = in_; core = record { reacts = serves out; fails = stops_serving; takes = takes_on; ROOM = MESSAGE_HEADER_LENGTH + MESSAGE_LENGTH_MAX } }
 
--- ---- what the calls do: taking, answering and ending a job
+-- ---- the effect of the calls: taking, answering and ending a job
 -- Source: this project's.
 
--- a core that has made no job, with a new connection
+-- Returns a core that has made no job, with a new connection.
 abbrev pub new_core : {O I : Type 0} → Rules → Services → Facts → O → I → ServerCore O I
 new_core rules services known outbound inbound = record { state = new_server rules services; connection = new_connection known outbound inbound }
 
--- the core, which takes no more of what comes in
+-- Returns the core after it stopped taking input.
 abbrev pub drained : {O I : Type 0} → ServerCore O I → ServerCore O I
 drained core = record core { state = record core.state { draining = true } }
 
--- the core with these jobs
+-- Returns the core with these jobs.
 abbrev pub with_jobs : {O I : Type 0} → ServerCore O I → List ActiveJob → ServerCore O I
 with_jobs c jobs = record c { state = with_list c.state jobs }
 
--- the connection lives, and the first of the jobs that wait was handed out
+-- Holds if the connection hasn't failed, and the first of the jobs that wait was handed out.
 pub record Hands {O I : Type 0} (old : ServerCore O I) (handed : Job) (new : ServerCore O I) : Type 0 where
   pub alive : old.connection.failure ≡ None
   pub hands : HandsOne old.state.jobs.list handed new.state.jobs.list
   pub same : new ≡ with_jobs old new.state.jobs.list
 
--- a response is queued under a stream's id, and no job ends
+-- Holds if a response was queued under a stream id, and no job ended.
 pub record QueuesResponse {O I : Type 0} (out : OutboundTransform O) (old : ServerCore O I) (k : ℕ) (response : Response) (new : ServerCore O I) : Type 0 where
   pub alive : old.connection.failure ≡ None
   pub sent : List Sent
@@ -173,7 +172,7 @@ pub record QueuesResponse {O I : Type 0} (out : OutboundTransform O) (old : Serv
   pub sends : SendsAll out old.connection.outbox sent new.connection.outbox
   pub same : new ≡ record old { connection = record old.connection { outbox = new.connection.outbox } }
 
--- a job that was taken, no stream's, ends, and nothing is queued
+-- Holds if a unary job that was taken ended, and nothing was queued.
 pub record Finishes {O I : Type 0} (old : ServerCore O I) (id : ℕ) (new : ServerCore O I) : Type 0 where
   pub alive : old.connection.failure ≡ None
   pub job : ActiveJob
@@ -181,7 +180,7 @@ pub record Finishes {O I : Type 0} (old : ServerCore O I) (id : ℕ) (new : Serv
   pub unary : is_stream job.body ≡ false
   pub same : new ≡ with_jobs old new.state.jobs.list
 
--- a job that was taken, no stream's, is answered
+-- Holds if a unary job that was taken was answered.
 pub record Answers {O I : Type 0} (out : OutboundTransform O) (old : ServerCore O I) (id : ℕ) (response : Response) (new : ServerCore O I) : Type 0 where
   pub alive : old.connection.failure ≡ None
   pub job : ActiveJob
@@ -192,7 +191,7 @@ pub record Answers {O I : Type 0} (out : OutboundTransform O) (old : ServerCore 
   pub sends : SendsAll out old.connection.outbox sent new.connection.outbox
   pub same : new ≡ record (with_jobs old new.state.jobs.list) { connection = record old.connection { outbox = new.connection.outbox } }
 
--- a handler failed: its job, no stream's, is gone, and the connection fails
+-- Holds if a handler failed: its unary job is gone, and the connection has failed.
 pub record Drops {O I : Type 0} (old : ServerCore O I) (id : ℕ) (new : ServerCore O I) : Type 0 where
   pub alive : old.connection.failure ≡ None
   pub job : ActiveJob
@@ -200,12 +199,12 @@ pub record Drops {O I : Type 0} (old : ServerCore O I) (id : ℕ) (new : ServerC
   pub unary : is_stream job.body ≡ false
   pub same : new ≡ record (with_jobs old new.state.jobs.list) { connection = record old.connection { failure = Some HandlerError } }
 
--- under async rules the response to an error that a handler gave: a status of code UNKNOWN with the error's text
+-- Holds if this is the response to a handler's error under async rules: a status of code UNKNOWN with the error's text.
 abbrev pub IsErrorResponse : Error → Response → Type 0
 IsErrorResponse error r = (text : List ℕ) × IsTextOf error text × (r ≡ status_response UNKNOWN text)
 
--- a handler gave an error: under sync rules its job is gone and the connection fails, under async rules it is answered, by
--- a valid response
+-- Holds if a handler's error was answered. Under sync rules its job is gone and the connection has failed. Under async rules the job was
+-- answered by a valid response.
 abbrev pub AnswersError : {O I : Type 0} → OutboundTransform O → Rules → ServerCore O I → ℕ → Error → ServerCore O I → Type 0
 AnswersError out Sync old id error new = Drops old id new
 AnswersError out Async old id error new = (r : Response) × IsErrorResponse error r × Answers out old id r new × IsResponse r
@@ -213,27 +212,27 @@ AnswersError out Async old id error new = (r : Response) × IsErrorResponse erro
 -- ---- jobs that expire
 -- Source: this project's; code and text of the answer: the Rust crate.
 
--- whether a job's deadline has passed at a moment
+-- Returns true if the deadline of a job is at or before a moment.
 abbrev pub is_due : ℕ → ActiveJob → Bool
 is_due now j = option_map_or (λ at. nat_le at now) (deadline_in j.body) false
 
--- the jobs that are due, by rising id
+-- Returns the jobs that are due, by rising id.
 abbrev pub due_jobs : ℕ → List ActiveJob → List ActiveJob
 due_jobs now jobs = filter (is_due now) jobs
 
--- the answer to a job that expires
+-- Returns the answer to a job that expires.
 abbrev pub timeout_response : Response
 timeout_response = status_response DEADLINE_EXCEEDED (codes "timeout")
 
--- how many bytes its frame may need
+-- Returns how many bytes the frame of the answer to an expired job may need.
 abbrev pub timeout_room : {O : Type 0} → OutboundTransform O → O → ℕ
 timeout_room out o = MESSAGE_HEADER_LENGTH + response_size timeout_response + out.overhead o
 
--- a job that was taken is to be told of, once it has expired
+-- Returns the expired jobs to be reported, after this job has expired. The job is added if it was taken.
 abbrev pub told_with : ActiveJob → List ℕ → List ℕ
 told_with job expired = if waits job then expired else expired ++ job.id ∷ []
 
--- One job expires, as there is room for its answer: it is gone, whether it was taken or not, and it is answered, or not where that
+-- Holds if one job expires, with room for its answer. The job is gone, whether it was taken or not, and is answered, unless the answer
 -- can't be sent.
 pub record ExpiresOne {O : Type 0} (out : OutboundTransform O) (old : Server) (from : Outbox O) (job : ActiveJob) (new : Server) (to : Outbox O) : Type 0 where
   pub at : IsJob old.jobs.list job.id job
@@ -243,21 +242,21 @@ pub record ExpiresOne {O : Type 0} (out : OutboundTransform O) (old : Server) (f
   pub answers : SendsOwnAnswer old.rules out from.half job.header.stream_id timeout_response sent
   pub sends : SendsAll out from sent to
 
--- These jobs expire, one after the other.
+-- Holds if these jobs expire, one after the other.
 abbrev pub ExpireAll : {O : Type 0} → OutboundTransform O → Server → Outbox O → List ActiveJob → Server → Outbox O → Type 0
 ExpireAll out old from [] new to = (new ≡ old) × (to ≡ from)
 ExpireAll {O} out old from (j ∷ js) new to = (mid : Server) × (between : Outbox O) × ExpiresOne out old from j mid between × ExpireAll out mid between js new to
 
--- Why jobs that are due are left: none is, there is no room for the answer to the first, or memory for it is wanted, for which the
--- connection has failed.
+-- Holds if jobs that are due are left with this failure of the connection. If none is left, or there is no room for the answer to the
+-- first, the connection hasn't failed. If memory for that answer was refused, the failure states this.
 abbrev pub Leaves : {O : Type 0} → OutboundTransform O → List ActiveJob → Outbox O → Option Failure → Type 0
 Leaves out [] outbox failure = failure ≡ None
 Leaves out (j ∷ js) outbox failure =
     ((free outbox.queue < timeout_room out outbox.half) × (failure ≡ None))
     ⊎ ((timeout_room out outbox.half ≤ free outbox.queue) × (failure ≡ Some NoMemoryLeft))
 
--- A moment came: the jobs that are due expire, by rising id, as long as there is room for their answers. Where memory for an answer
--- is refused the connection has failed. Those before have expired.
+-- Holds if a moment came. The jobs that are due expire, by rising id, while there is room for their answers. If memory for an answer is
+-- refused the connection has failed, and the jobs before have expired.
 pub record Ticks {O I : Type 0} (out : OutboundTransform O) (old : ServerCore O I) (now : ℕ) (new : ServerCore O I) : Type 0 where
   pub expired : List ActiveJob
   pub left : List ActiveJob
@@ -266,37 +265,38 @@ pub record Ticks {O I : Type 0} (out : OutboundTransform O) (old : ServerCore O 
   pub leaves : Leaves out left new.connection.outbox new.connection.failure
   pub same : new ≡ record old { state = new.state; connection = record old.connection { outbox = new.connection.outbox; failure = new.connection.failure } }
 
--- a moment came: under sync rules and after a failure it changes nothing
+-- Holds if a moment came. Under sync rules and after a failure nothing changes.
 abbrev pub Passes : {O I : Type 0} → OutboundTransform O → Rules → Option Failure → ServerCore O I → ℕ → ServerCore O I → Type 0
 Passes out Sync failure old now new = new ≡ old
 Passes out Async None old now new = Ticks out old now new
 Passes out Async (Some failure) old now new = new ≡ old
 
--- the least moment at which a job expires
+-- Holds if this is the least moment at which a job expires.
 pub record IsDeadline (jobs : List ActiveJob) (at : ℕ) : Type 0 where
   pub some : due_jobs at jobs ≢ []
   pub earlier : (now : ℕ) → now < at → due_jobs now jobs ≡ []
 
--- ---- for what an answer, a response and a job's end are refused, in the order of the tests
+-- ---- why an answer, a response and a job's end are refused, in the order of the tests
 -- Source: this project's; texts: the Rust crate.
 
--- the connection lives, and the server keeps the rules that have no such call
+-- Holds if the connection hasn't failed, and the server follows async rules, which have no such call.
 pub record HasOtherRules {O I : Type 0} (old : ServerCore O I) (told : Error) : Type 0 where
   pub alive : old.connection.failure ≡ None
   pub rules : old.state.rules ≡ Async
   pub is_told : IsTold (Others (codes "wrong rules for this call")) told
 
--- the connection lives, and no such job waits for an answer
+-- Holds if the connection hasn't failed, and there is no unary job of this id that was taken.
 pub record HasNoJob {O I : Type 0} (old : ServerCore O I) (id : ℕ) (told : Error) : Type 0 where
   pub alive : old.connection.failure ≡ None
   pub unknown : IsNoUnary old.state.rules old.state.jobs.list id
   pub is_told : IsTold (Others (codes "unknown job")) told
 
--- the response fits into a message, and the queue lacks room for it
+-- Holds if the response fits into a message, but the queue lacks room for it.
 abbrev pub LacksRoom : {O : Type 0} → Rules → OutboundTransform O → Outbox O → Response → Type 0
 LacksRoom rules out outbox r = (response_size (fitted rules (safe_limit out outbox.half) r) ≤ safe_limit out outbox.half) × (free outbox.queue < response_room rules out outbox.half r)
 
--- a response can't be sent: it is above the limit, there is no room for it, the half refuses it, or memory is wanted
+-- Holds if a response can't be sent, with this error: it is above the limit, there is no room for it, the half refuses it, or memory is
+-- refused.
 abbrev pub IsUnsent : {O : Type 0} → Rules → OutboundTransform O → Outbox O → ℕ → Response → Error → Type 0
 IsUnsent rules out outbox k r told =
     (IsAboveLimit rules (safe_limit out outbox.half) r × IsTold (Others (unsafe_payload_text (response_size (fitted rules (safe_limit out outbox.half) r)) (safe_limit out outbox.half) (advice rules))) told)
@@ -304,13 +304,13 @@ IsUnsent rules out outbox k r told =
     ⊎ ((response_room rules out outbox.half r ≤ free outbox.queue) × ((why : List ℕ) × IsUnsealed rules out outbox.half k r why × IsTold (Others (unsealed_text why)) told))
     ⊎ (told ≡ NoMemory)
 
--- what is sent for what a handler gave: its response, or under async rules one to its error
+-- Holds if this is the response to send for a handler's result: its response, or under async rules one to its error.
 abbrev pub IsSentFor : Rules → Result Response Error → Response → Type 0
 IsSentFor rules (Ok r) answer = answer ≡ r
 IsSentFor Sync (Err e) answer = ⊥
 IsSentFor Async (Err e) answer = IsErrorResponse e answer
 
--- the connection lives, the job was taken, under async rules no stream's, and the response to it can't be sent
+-- Holds if the connection hasn't failed and the job was taken, but the response to it can't be sent. Under async rules the job is unary.
 pub record HasUnsent {O I : Type 0} (out : OutboundTransform O) (old : ServerCore O I) (id : ℕ) (response : Result Response Error) (told : Error) : Type 0 where
   pub alive : old.connection.failure ≡ None
   pub job : ActiveJob
@@ -320,19 +320,20 @@ pub record HasUnsent {O I : Type 0} (out : OutboundTransform O) (old : ServerCor
   pub is_answer : IsSentFor old.state.rules response answer
   pub unsent : IsUnsent old.state.rules out old.connection.outbox job.header.stream_id answer told
 
--- for what an answer is refused: the connection has failed, or there is no such job, or the response can't be sent
+-- Holds if an answer may be refused with this error: the connection has failed, there is no such job, or the response can't be sent.
 abbrev pub RefusesAnswer : {O I : Type 0} → OutboundTransform O → ServerCore O I → ℕ → Result Response Error → Error → Type 0
 RefusesAnswer out old id response told = IsFailed old.connection.failure told ⊎ HasNoJob old id told ⊎ HasUnsent out old id response told
 
--- the connection lives, and the response can't be sent
+-- Holds if the connection hasn't failed, but the response can't be sent.
 pub record HasUnsentResponse {O I : Type 0} (out : OutboundTransform O) (old : ServerCore O I) (k : ℕ) (response : Response) (told : Error) : Type 0 where
   pub alive : old.connection.failure ≡ None
   pub unsent : IsUnsent old.state.rules out old.connection.outbox k response told
 
--- for what a response is refused: the connection has failed, or async rules have no such call, or it can't be sent
+-- Holds if a response may be refused with this error: the connection has failed, async rules have no such call, or the response can't be
+-- sent.
 abbrev pub RefusesResponse : {O I : Type 0} → OutboundTransform O → ServerCore O I → ℕ → Response → Error → Type 0
 RefusesResponse out old k response told = IsFailed old.connection.failure told ⊎ HasOtherRules old told ⊎ ((old.state.rules ≡ Sync) × HasUnsentResponse out old k response told)
 
--- for what a job's end is refused: the connection has failed, or async rules have no such call, or there is no such job
+-- Holds if a job's end may be refused with this error: the connection has failed, async rules have no such call, or there is no such job.
 abbrev pub RefusesFinish : {O I : Type 0} → ServerCore O I → ℕ → Error → Type 0
 RefusesFinish old id told = IsFailed old.connection.failure told ⊎ HasOtherRules old told ⊎ ((old.state.rules ≡ Sync) × HasNoJob old id told)

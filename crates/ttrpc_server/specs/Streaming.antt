@@ -1,5 +1,5 @@
--- The streams of a server: what a job's number names for a call on its stream, what each of these calls does, and for what
--- it is refused, from top to bottom.
+-- The streams of a server: the stream that a job's id names, the effect of each call on it, and the reasons for refusals, from top to
+-- bottom.
 -- Source: PROTOCOL.md of ttrpc, "Data" and "Streaming"; errors and texts: the Rust crate; their order: this project's. How data
 -- are sent, and for what they are refused, is said in `Items` of the connection's specs, the table of a mailbox in `Mail`.
 use Rattle.std.specs.Prelude.{◌≡◌, ◌<◌, ◌≤◌, ◌⊎◌, ◌&&◌, ℕ, List, [], codes, nat_le, nat_lt, Bool, true, false, Option, None, Some, Result, Ok, Err, if◌then◌else◌}
@@ -23,38 +23,39 @@ use Rattle.ttrpc_server.specs.Protocol.{IsErrorResponse, IsUnsent, Responds, adv
 use Rattle.ttrpc_server.specs.State.{EndsOne, IsTaken, IsUnknown, JobList, Server, is_stream, job_at, on_mail}
 use Rattle.ttrpc_server.specs.Mailboxes.{ReceivesFrom}
 
--- ---- what a job's number names
+-- ---- the stream that a job's id names
 
--- whether a job of this id was made
+-- Returns true if a job of this id was made.
 abbrev pub was_made : JobList → ℕ → Bool
 was_made jobs id = nat_lt 0 id && nat_le id jobs.last
 
--- there is no such stream
+-- Returns the error that there is no such stream.
 abbrev pub unknown_stream : Error
 unknown_stream = Others (codes "unknown stream")
 
--- why a call on the stream of a job isn't for it: it is no stream's, or wasn't made; or it has ended, which is told so
+-- Returns the error for a call on the stream of a job, or none if the job is a stream's. The stream is unknown if the job isn't a stream's
+-- or wasn't made. If the job has ended, the error is the given one.
 abbrev pub astray : Error → Option ActiveJob → Bool → Option Error
 astray ended (Some j) made = if is_stream j.body then None else Some unknown_stream
 astray ended None true = Some ended
 astray ended None false = Some unknown_stream
 
--- why nothing is sent on the stream of a job
+-- Returns the error why nothing is sent on the stream of a job, if there is one.
 abbrev pub unsendable : JobList → ℕ → Option Error
 unsendable jobs id = astray LocalClosed (job_at jobs.list id) (was_made jobs id)
 
--- why nothing is received from it
+-- Returns the error why nothing is received from the stream of a job, if there is one.
 abbrev pub unreceivable : JobList → ℕ → Option Error
 unreceivable jobs id = astray past_error (job_at jobs.list id) (was_made jobs id)
 
--- the rules are those that have no streams
+-- Holds if the rules have no streams, and this error reports it.
 pub record HasNoStreams (s : Server) (told : Error) : Type 0 where
   pub rules : s.rules ≡ Sync
   pub is_told : IsTold (Others (codes "wrong rules for this call")) told
 
 -- ---- items that are sent
 
--- An item was sent on the stream of a job, and got this ticket.
+-- Holds if an item was sent on the stream of a job, with this ticket.
 pub record SendsItem {O I : Type 0} (out : OutboundTransform O) (old : ServerCore O I) (id : ℕ) (item : List ℕ) (ticket : ℕ) (new : ServerCore O I) : Type 0 where
   pub alive : old.connection.failure ≡ None
   pub rules : old.state.rules ≡ Async
@@ -64,7 +65,7 @@ pub record SendsItem {O I : Type 0} (out : OutboundTransform O) (old : ServerCor
   pub sends : SendsData out old.connection.outbox job.header.stream_id 0 item ticket new.connection.outbox
   pub same : new ≡ record old { connection = record old.connection { outbox = new.connection.outbox } }
 
--- the connection lives, and there is no such stream to send on
+-- Holds if the connection hasn't failed, and there is no such stream to send on.
 pub record IsAstray {O I : Type 0} (old : ServerCore O I) (id : ℕ) (told : Error) : Type 0 where
   pub alive : old.connection.failure ≡ None
   pub rules : old.state.rules ≡ Async
@@ -72,7 +73,7 @@ pub record IsAstray {O I : Type 0} (old : ServerCore O I) (id : ℕ) (told : Err
   pub is : unsendable old.state.jobs id ≡ Some error
   pub is_told : IsTold error told
 
--- or there is one, but these data aren't sent
+-- Holds if there is such a stream, but these data aren't sent.
 pub record IsItemRefused {O I : Type 0} (out : OutboundTransform O) (old : ServerCore O I) (id : ℕ) (item : List ℕ) (told : Error) : Type 0 where
   pub alive : old.connection.failure ≡ None
   pub rules : old.state.rules ≡ Async
@@ -81,26 +82,26 @@ pub record IsItemRefused {O I : Type 0} (out : OutboundTransform O) (old : Serve
   pub stream : is_stream job.body ≡ true
   pub refuses : RefusesData out (advice Async) old.connection.outbox job.header.stream_id 0 item told
 
--- For what sending an item is refused.
+-- Holds if an item may be refused with this error.
 abbrev pub RefusesItem : {O I : Type 0} → OutboundTransform O → ServerCore O I → ℕ → List ℕ → Error → Type 0
 RefusesItem out old id item told =
     IsFailed old.connection.failure told ⊎ ((old.connection.failure ≡ None) × HasNoStreams old.state told) ⊎ IsAstray old id told ⊎ IsItemRefused out old id item told
 
 -- ---- items that are received
 
--- what asking for the next item gives, by the rules; the connection's failure stands behind all that came
+-- Holds if this is the result of a call to receive, by the rules. The connection's failure comes after all things that came.
 abbrev pub ReceivesBy : Rules → Option Failure → Server → ℕ → Option (Result (List ℕ) Error) → List ActiveJob → Type 0
 ReceivesBy Sync failure s id given new = ((told : Error) × HasNoStreams s told × (given ≡ Some (Err told))) × (new ≡ s.jobs.list)
 ReceivesBy Async failure s id given new =
     ReceivesFrom failure s.jobs.list id (Some given) new
     ⊎ (((error : Error) × (told : Error) × (unreceivable s.jobs id ≡ Some error) × IsTold error told × (given ≡ Some (Err told))) × (new ≡ s.jobs.list))
 
--- and this was given
+-- Holds if this is the result of a call to receive, and nothing else changed.
 pub record ReceivesOne {O I : Type 0} (old : ServerCore O I) (id : ℕ) (given : Option (Result (List ℕ) Error)) (new : ServerCore O I) : Type 0 where
   pub own : ReceivesBy old.state.rules old.connection.failure old.state id given new.state.jobs.list
   pub same : new ≡ record old { state = record old.state { jobs = record old.state.jobs { list = new.state.jobs.list } } }
 
--- nobody receives any more, and nobody is told that something came
+-- Returns the core after the receiver of a job was dropped. The job is no longer one for which something came.
 abbrev pub unheard : {O I : Type 0} → ServerCore O I → ℕ → ServerCore O I
 unheard core id = record core {
   state = record core.state {
@@ -111,7 +112,7 @@ unheard core id = record core {
 
 -- ---- a stream that ends
 
--- a frame that closes a stream, without an item
+-- Holds if this is a frame that closes a stream, without an item.
 pub record IsCloseFrame (k : ℕ) (f : Queued) : Type 0 where
   pub stream_id : f.message.header.stream_id ≡ k
   pub type_ : f.message.header.type_ ≡ MESSAGE_TYPE_DATA
@@ -120,17 +121,17 @@ pub record IsCloseFrame (k : ℕ) (f : Queued) : Type 0 where
   pub is_unary_request : f.is_unary_request ≡ false
   pub owner : f.owner ≡ k
 
--- what ends a stream is sent: a frame that closes it, or a response
+-- Holds if a stream's end was sent: a frame that closes the stream, or a response.
 abbrev pub SendsEndFrame : {O : Type 0} → OutboundTransform O → Outbox O → ℕ → Option Response → Outbox O → Type 0
 SendsEndFrame out old k None new = (frame : Queued) × IsCloseFrame k frame × SendsOne out old frame [] new
 SendsEndFrame out old k (Some r) new = (sent : List Sent) × Responds Async (safe_limit out old.half) k r sent × SendsAll out old sent new
 
--- by what its handler gave: an error is answered by its text, in a valid response
+-- Holds if a stream's end was sent, by its handler's result. An error is answered by its text, in a valid response.
 abbrev pub SendsEnd : {O : Type 0} → OutboundTransform O → Outbox O → ℕ → Result (Option Response) Error → Outbox O → Type 0
 SendsEnd out old k (Ok end) new = SendsEndFrame out old k end new
 SendsEnd out old k (Err error) new = (r : Response) × IsErrorResponse error r × SendsEndFrame out old k (Some r) new × IsResponse r
 
--- The stream of a job that was taken ends so: the job is gone, and its receiver.
+-- Holds if the stream of a job that was taken ended with this result. The job and its receiver are gone.
 pub record EndsStream {O I : Type 0} (out : OutboundTransform O) (old : ServerCore O I) (id : ℕ) (end : Result (Option Response) Error) (new : ServerCore O I) : Type 0 where
   pub alive : old.connection.failure ≡ None
   pub rules : old.state.rules ≡ Async
@@ -146,23 +147,23 @@ pub record EndsStream {O I : Type 0} (out : OutboundTransform O) (old : ServerCo
     connection = record old.connection { outbox = new.connection.outbox };
   }
 
--- there is no such job
+-- Returns the error that there is no such job.
 abbrev pub unknown_job : Error
 unknown_job = Others (codes "unknown job")
 
--- no stream's job of this id was taken
+-- Holds if no stream's job of this id was taken.
 abbrev pub IsNoStream : List ActiveJob → ℕ → Type 0
 IsNoStream jobs id = IsUnknown jobs id ⊎ ((job : ActiveJob) × IsTaken jobs id job × (is_stream job.body ≡ false))
 
--- the connection lives, the rules have streams, and no stream's job of this id was taken
+-- Holds if the connection hasn't failed and the rules have streams, but no stream's job of this id was taken.
 pub record HasNoStream {O I : Type 0} (old : ServerCore O I) (id : ℕ) (told : Error) : Type 0 where
   pub alive : old.connection.failure ≡ None
   pub rules : old.state.rules ≡ Async
   pub unknown : IsNoStream old.state.jobs.list id
   pub is_told : IsTold unknown_job told
 
--- why an end isn't sent: for a frame that closes there is no room, it is refused by the half, or memory is wanted; a response
--- can't be sent
+-- Holds if an end can't be sent, with this error. For a frame that closes the stream there is no room, the half refuses it, or memory is
+-- refused. A response can't be sent for its own reasons.
 abbrev pub IsUnconcluded : {O : Type 0} → OutboundTransform O → Outbox O → ℕ → Result (Option Response) Error → Error → Type 0
 IsUnconcluded out outbox k (Ok None) told =
     ((free outbox.queue < needed out outbox.half []) × (told ≡ NoRoom))
@@ -172,7 +173,7 @@ IsUnconcluded out outbox k (Ok None) told =
 IsUnconcluded out outbox k (Ok (Some r)) told = IsUnsent Async out outbox k r told
 IsUnconcluded out outbox k (Err error) told = ((r : Response) × IsErrorResponse error r × IsUnsent Async out outbox k r told) ⊎ (told ≡ NoMemory)
 
--- the connection lives, a stream's job was taken, and its end can't be sent
+-- Holds if the connection hasn't failed and a stream's job was taken, but its end can't be sent.
 pub record HasUnconcluded {O I : Type 0} (out : OutboundTransform O) (old : ServerCore O I) (id : ℕ) (end : Result (Option Response) Error) (told : Error) : Type 0 where
   pub alive : old.connection.failure ≡ None
   pub rules : old.state.rules ≡ Async
@@ -181,7 +182,7 @@ pub record HasUnconcluded {O I : Type 0} (out : OutboundTransform O) (old : Serv
   pub stream : is_stream job.body ≡ true
   pub unconcluded : IsUnconcluded out old.connection.outbox job.header.stream_id end told
 
--- For what the end of a stream is refused.
+-- Holds if the end of a stream may be refused with this error.
 abbrev pub RefusesEnd : {O I : Type 0} → OutboundTransform O → ServerCore O I → ℕ → Result (Option Response) Error → Error → Type 0
 RefusesEnd out old id end told =
     IsFailed old.connection.failure told ⊎ ((old.connection.failure ≡ None) × HasNoStreams old.state told) ⊎ HasNoStream old id told ⊎ HasUnconcluded out old id end told

@@ -1,8 +1,7 @@
--- The table of a server: which case a frame is, what a request does that was read, and what each of them does.
--- The kinds of frames, and that a request is answered by one response under its stream's id, are PROTOCOL.md's. What it
--- leaves open, which is codes, texts and which frames are passed over, is as the Rust crate has it, which has two servers:
--- each of the two rules is one of them. That async rules refuse an id whose job is active,
--- and one that isn't above that of the newest request, is this project's.
+-- The table of a server: the case of each frame, the action of a request that was read, and the row of each. PROTOCOL.md defines the kinds
+-- of frames, and that a request is answered by one response under its stream id. The document leaves codes, texts and the ignored frames
+-- open, which are as in the Rust crate. The crate has two servers, and each of the two rules follows one of them. This project adds that
+-- async rules refuse an id with an active job, and an id that isn't above that of the newest request.
 -- Source: PROTOCOL.md of ttrpc, "Message Frame", "Request" and "Response"; the Rust crate; this project's.
 use Rattle.std.specs.Prelude.{◌≡◌, ◌⊎◌, ◌<◌, ℕ, ◌%◌, List, ◌++◌, length, codes, Option, None, Some, Bool, true, false, nat_eq, nat_lt, if◌then◌else◌, [], ◌∷◌}
 use Rattle.std.specs.Fmt.{decimal}
@@ -15,9 +14,9 @@ use Rattle.ttrpc_secure.specs.Context.Texts.{unopened_text}
 use Rattle.ttrpc_connection.specs.declared.arrived.Opening.{Opening}
 use Rattle.ttrpc_server.specs.State.{Services, has_method, has_service, has_stream}
 
--- ---- which case a frame is, from top to bottom
+-- ---- the case of a frame, from top to bottom
 
--- what a stream's job is for data, by whether its end came and by its receiver: behind the end they are passed over
+-- Returns how a stream's job takes data, by whether its end came and by its receiver. Data after the end are ignored.
 abbrev pub inlet_by : Bool → Receiver → Inlet
 inlet_by true receiver = Full
 inlet_by false Open = Taking
@@ -25,52 +24,53 @@ inlet_by false Closed = Busy
 inlet_by false Broken = Busy
 inlet_by false Dropped = Busy
 
--- what a job is for a frame under its id
+-- Returns how a job takes a frame under its stream id.
 abbrev pub inlet_in : Body → Inlet
 inlet_in (Unary deadline) = Busy
 inlet_in (Stream mail) = inlet_by mail.ended mail.receiver
 
--- what these jobs, those of an id, are for a frame under it
+-- Returns how these jobs, those of a stream id, take a frame under it.
 abbrev pub inlet_of : List ActiveJob → Inlet
 inlet_of [] = Absent
 inlet_of (j ∷ js) = inlet_in j.body
 
--- a payload was opened, under sync rules
+-- Returns the case of a payload that was opened, under sync rules.
 abbrev pub sync_case : MessageHeader → List ℕ → Case
 sync_case h plain =
     if nat_lt MESSAGE_LENGTH_MAX (length plain) then Oversize (length plain) else
     if nat_eq h.type_ MESSAGE_TYPE_REQUEST then Asks plain else
     Skipped
 
--- an id is above that of the newest request, if there is one
+-- Holds if an id is above that of the newest request, if there is one.
 abbrev pub IsAbove : ℕ → Option ℕ → Type 0
 IsAbove k None = Unit {0}
 IsAbove k (Some newest) = newest < k
 
--- the newest request stays, or one of a greater id is the newest
+-- Holds if the newest request is as before, or is one of a greater id.
 abbrev pub IsNoOlder : Option ℕ → Option ℕ → Type 0
 IsNoOlder old new = (new ≡ old) ⊎ ((k : ℕ) × (new ≡ Some k) × IsAbove k old)
 
--- a request under async rules of an id that has no job: it is read if its id is above that of the newest request
+-- Returns the case of a request under async rules with an id that has no job. The request is read if its id is above that of the newest
+-- request.
 abbrev pub newer_case : ℕ → Option ℕ → List ℕ → Case
 newer_case k None plain = Asks plain
 newer_case k (Some newest) plain = if nat_lt newest k then Asks plain else NotAbove newest
 
--- a request under async rules, by what its id has
+-- Returns the case of a request under async rules, by the state of its id.
 abbrev pub inlet_case : ℕ → Option ℕ → List ℕ → Inlet → Case
 inlet_case k newest plain Absent = newer_case k newest plain
 inlet_case k newest plain Busy = InUse
 inlet_case k newest plain Taking = InUse
 inlet_case k newest plain Full = InUse
 
--- data under async rules, by the same
+-- Returns the case of data under async rules, by the state of their id.
 abbrev pub data_case : List ℕ → Inlet → Case
 data_case plain Absent = Inactive
 data_case plain Busy = Inactive
 data_case plain Taking = PutsIn plain
 data_case plain Full = Skipped
 
--- a payload was opened, under async rules
+-- Returns the case of a payload that was opened, under async rules.
 abbrev pub async_case : MessageHeader → List ℕ → Option ℕ → Inlet → Case
 async_case h plain newest inlet =
     if nat_lt MESSAGE_LENGTH_MAX (length plain) then Skipped else
@@ -79,30 +79,30 @@ async_case h plain newest inlet =
     if nat_eq h.type_ MESSAGE_TYPE_DATA then data_case plain inlet else
     Skipped
 
--- a payload was opened
+-- Returns the case of a payload that was opened.
 abbrev pub opened_case : Rules → MessageHeader → List ℕ → Option ℕ → Inlet → Case
 opened_case Sync h plain newest inlet = sync_case h plain
 opened_case Async h plain newest inlet = async_case h plain newest inlet
 
--- the inbound half refused a payload
+-- Returns the case of a payload that the inbound half refused.
 abbrev pub unopened_case : Rules → List ℕ → Case
 unopened_case Sync why = Unopened why
 unopened_case Async why = Skipped
 
--- the case of a frame, by what the inbound half made of its payload, the newest request and what its id has
+-- Returns the case of a frame, by the result of the inbound half, the newest request and the state of the frame's id.
 abbrev pub case_of : Rules → MessageHeader → Opening → Option ℕ → Inlet → Case
 case_of rules h TooLong newest inlet = Oversize h.length
 case_of rules h (Refused why) newest inlet = unopened_case rules why
 case_of rules h (Opened plain) newest inlet = opened_case rules h plain newest inlet
 
--- which request is the newest after a frame of this id and case: under async rules one that is read
+-- Returns the newest request after a frame of this id and case: under async rules a request that is read, or else the one before.
 abbrev pub newest_after : Rules → ℕ → Case → Option ℕ → Option ℕ
 newest_after Async k (Asks plain) newest = Some k
 newest_after rules k case newest = newest
 
--- ---- what a request does that was read
+-- ---- the action of a request that was read
 
--- there is no such method: sync rules know methods alone
+-- Returns the action of a request for a method that isn't there. Sync rules have methods alone.
 abbrev pub other_of : Rules → Services → Request → Asked
 other_of Sync services r = NoPath
 other_of Async services r =
@@ -110,53 +110,53 @@ other_of Async services r =
     if has_service services r.service then NoMethod else
     NoService
 
--- what a request does that was read
+-- Returns the action of a request that was read.
 abbrev pub asked_of : Rules → Services → Request → Asked
 asked_of rules services r = if has_method services r.service r.method then Call else other_of rules services r
 
--- ---- what is answered: a code and a text, or nothing
+-- ---- the answer: a code and a text, or nothing
 
--- the response with the status of this code and message, and no payload
+-- Returns the response with a status of this code and message, and no payload.
 abbrev pub status_response : Code → List ℕ → Response
 status_response code message = record { status = Some (status_of code message); payload = [] }
 
--- the inbound half didn't open a payload
+-- Returns the text of the answer to a payload that the inbound half didn't open.
 abbrev pub unopened_response_text : List ℕ → List ℕ
 unopened_response_text why = codes "ttrpc err: " ++ unopened_text why
 
--- an id is even
+-- Returns the text of the answer to an even id.
 abbrev pub even_id_text : List ℕ
 even_id_text = codes "stream id must be odd"
 
--- data come for no active stream
+-- Returns the text of the answer to data that no active stream takes.
 abbrev pub inactive_text : List ℕ
 inactive_text = codes "Stream is no longer active"
 
--- an id has an active job
+-- Returns the text of the answer to a request under an id that has an active job.
 abbrev pub in_use_text : ℕ → List ℕ
 in_use_text k = codes "stream id " ++ decimal k ++ codes " is in use"
 
--- an id isn't above that of the newest request
+-- Returns the text of the answer to a request under an id that isn't above that of the newest request.
 abbrev pub not_above_text : ℕ → ℕ → List ℕ
 not_above_text k newest = codes "stream id " ++ decimal k ++ codes " is not above " ++ decimal newest
 
--- no handler has this path
+-- Returns the text of the answer to a request with a path that has no handler.
 abbrev pub path_text : List ℕ → List ℕ → List ℕ
 path_text service method = codes "/" ++ service ++ codes "/" ++ method ++ codes " does not exist"
 
--- there is no such service
+-- Returns the text of the answer to a request for a service that isn't there.
 abbrev pub service_text : List ℕ → List ℕ
 service_text service = service ++ codes " service does not exist"
 
--- the service has no such method
+-- Returns the text of the answer to a request for a method that its service lacks.
 abbrev pub method_text : List ℕ → List ℕ
 method_text method = method ++ codes " method"
 
--- a response of this code and text
+-- Returns a response of this code and text.
 abbrev pub answer : Code → List ℕ → Option Response
 answer code text = Some (status_response code text)
 
--- what is answered at a case
+-- Returns the answer to a frame of this case, if there is one.
 abbrev pub case_answer : MessageHeader → Case → Option Response
 case_answer h Skipped = None
 case_answer h (Oversize n) = answer INVALID_ARGUMENT (oversize_text n)
@@ -168,7 +168,7 @@ case_answer h (NotAbove newest) = answer INVALID_ARGUMENT (not_above_text h.stre
 case_answer h (Asks plain) = None
 case_answer h (PutsIn plain) = None
 
--- what is answered to a request that was read
+-- Returns the answer to a request that was read, if there is one.
 abbrev pub asked_answer : Request → Asked → Option Response
 asked_answer r Call = None
 asked_answer r Chat = None
@@ -176,24 +176,24 @@ asked_answer r NoPath = answer INVALID_ARGUMENT (path_text r.service r.method)
 asked_answer r NoService = answer INVALID_ARGUMENT (service_text r.service)
 asked_answer r NoMethod = answer UNIMPLEMENTED (method_text r.method)
 
--- ---- which row a frame has
+-- ---- the row of a frame
 
--- what a frame does
+-- The action of a frame.
 pub data Row : Type 0 where
   -- nothing
   Ignore : Row
   -- this response is sent
   SendResponse : (response : Response) → Row
-  -- a response of this code is sent, whose text is left open
+  -- a response of this code is sent, with any text
   SendCode : (code : Code) → Row
-  -- a job of one response is made of the request
+  -- a unary job is made of the request
   MakeJob : (request : Request) → Row
-  -- a stream's job is
+  -- a stream's job is made of the request
   MakeStream : (request : Request) → Row
-  -- data are put into the mailbox of its id's stream
+  -- data are put into the mailbox of the stream of their id
   PutIn : (payload : List ℕ) → Row
 
--- whether it makes a job
+-- Returns true if the row makes a job.
 abbrev pub makes_job : Row → Bool
 makes_job Ignore = false
 makes_job (SendResponse response) = false
@@ -202,28 +202,28 @@ makes_job (MakeJob request) = true
 makes_job (MakeStream request) = true
 makes_job (PutIn payload) = false
 
--- what is answered is sent
+-- Returns the row that sends this answer, if there is one.
 abbrev pub answer_row : Option Response → Row
 answer_row None = Ignore
 answer_row (Some r) = SendResponse r
 
--- the row of a request that was read
+-- Returns the row of a request that was read.
 abbrev pub asked_row : Request → Asked → Row
 asked_row r Call = MakeJob r
 asked_row r Chat = MakeStream r
 asked_row r asked = answer_row (asked_answer r asked)
 
--- the row of a request, and of bytes that mean none
+-- Returns the row of a request, or of bytes that can't be read as one.
 abbrev pub request_row : Rules → Services → Option Request → Row
 request_row rules services None = SendCode INVALID_ARGUMENT
 request_row rules services (Some r) = asked_row r (asked_of rules services r)
 
--- the row of each case
+-- Returns the row of each case.
 abbrev pub case_row : Rules → Services → MessageHeader → Case → Row
 case_row rules services h (PutsIn plain) = PutIn plain
 case_row rules services h (Asks plain) = request_row rules services (read_from request_step empty_request plain)
 case_row rules services h case = answer_row (case_answer h case)
 
--- the rows under sync rules, whatever the id of the frame has
+-- Returns the row under sync rules, in which the state of the frame's id has no part.
 abbrev pub sync_row : Services → MessageHeader → Opening → Row
 sync_row services h opening = case_row Sync services h (case_of Sync h opening None Absent)

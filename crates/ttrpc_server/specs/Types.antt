@@ -1,4 +1,4 @@
--- The types of the code that these definitions speak of, in one list.
+-- The types of the code that these definitions use, in one list.
 -- Source: this project's.
 pub use Rattle.ttrpc_wire.specs.declared.values.code.Code.{Code}
 pub use Rattle.ttrpc_wire.specs.declared.values.code.Code.TheVariants.{DEADLINE_EXCEEDED, INVALID_ARGUMENT, UNIMPLEMENTED, UNKNOWN}

@@ -1,4 +1,4 @@
-//! Jobs that expire, and what is told of them.
+//! Jobs that expire, and the expired jobs that are still to be reported.
 ghost use Rattle.std.specs.Prelude.{◌≡◌, ◌<◌, ◌≤◌, ◌↔◌, true, ◌+◌, ◌++◌, [], ◌∷◌, if◌then◌else◌, length, slice_get, option_to_list, IfErr, IfNone, Some, IsPermutation, OnOk, OnErr};
 ghost use Rattle.std.specs.List.Sorted.{IsNonDecreasing};
 ghost use Rattle.ttrpc_connection.specs.Deadlines.{due_ids};
@@ -21,7 +21,7 @@ use ttrpc_connection::Outbox;
 use ttrpc_connection::deadlines::Deadlines;
 use ttrpc_secure::OutboundTransform;
 
-/// The jobs that are due, while they expire, and those that expired and weren't told of yet.
+/// The jobs that are due, while they expire, and those that expired and weren't reported yet.
 #[derive(Drop)]
 pub(crate) struct Expiry {
     due: Vec<JobId>,
@@ -43,7 +43,7 @@ impl Model for Expiry {
 }
 
 impl Expiry {
-    /// Nothing expired. Takes no memory.
+    /// Returns an `Expiry` with no jobs. Takes no memory.
     pub(crate) fn new(alloc: Global) -> Self
         ensures due { result.due ≡ [] }
         ensures expired { result.expired ≡ [] }
@@ -65,11 +65,14 @@ impl Expiry {
         self.expired.reserve(jobs)
     }
 
-    /// Lists the jobs whose deadlines are at this moment or before it, by rising id. Takes no memory.
+    /// Lists the jobs with deadlines at or before this moment, by rising id. Takes no memory.
     pub(crate) fn list_due(&mut self, deadlines: &Deadlines, now: u64)
+        // There is room for the ids of the jobs that are due.
         requires { length (due_ids now deadlines.now) ≤ self.old.room }
+        // The list has these ids, by rising id.
         ensures are { IsPermutation (due_ids now deadlines.now) self.new.due }
         ensures rise { IsNonDecreasing self.new.due }
+        // The jobs that expired are as they were, and there is no less room.
         ensures expired { self.new.expired ≡ self.old.expired }
         ensures room { self.old.room ≤ self.new.room }
     {
@@ -77,14 +80,14 @@ impl Expiry {
         self.due.sort_unstable();
     }
 
-    /// How many jobs are due. Takes no memory.
+    /// Returns how many jobs are due. Takes no memory.
     pub(crate) fn count_due(&self) -> usize
         ensures { result ≡ length self.now.due }
     {
         self.due.len()
     }
 
-    /// The job at this place of those that are due. Takes no memory.
+    /// Returns the due job at this place of the list. Takes no memory.
     pub(crate) fn due_at(&self, place: usize) -> JobId
         requires { place < length self.now.due }
         ensures { slice_get self.now.due place ≡ Some result }
@@ -92,10 +95,11 @@ impl Expiry {
         self.due[place]
     }
 
-    /// A job that expired is to be told of, unless it waited. Takes no memory.
+    /// Lists an expired job to be reported, unless it waited to be handed out. Takes no memory.
     fn tell(&mut self, id: JobId, waited: bool)
         requires { 0 < self.old.room }
-        ensures expired { self.new.expired ≡ (if waited then self.old.expired else self.old.expired ++ id ∷ []) }
+        ensures expired { self.new.expired
+            ≡ (if waited then self.old.expired else self.old.expired ++ id ∷ []) }
         ensures due { self.new.due ≡ self.old.due }
         ensures room { self.old.room ≤ self.new.room + 1 }
     {
@@ -107,7 +111,7 @@ impl Expiry {
         }
     }
 
-    /// The first of those that expired and weren't told of yet. Takes no memory.
+    /// Takes the first of the jobs that expired and weren't reported yet. Takes no memory.
     pub(crate) fn next_expired(&mut self) -> Option<JobId>
         ensures first { self.old.expired ≡ option_to_list result ++ self.new.expired }
         ensures none { IfNone result (self.old.expired ≡ []) }
@@ -116,7 +120,7 @@ impl Expiry {
         self.expired.pop_front()
     }
 
-    /// Those that expired are no longer told of. Takes no memory.
+    /// Forgets the expired jobs that weren't reported yet. Takes no memory.
     pub(crate) fn forget(&mut self)
         ensures expired { self.new.expired ≡ [] }
         ensures room { self.old.room ≤ self.new.room }
@@ -125,26 +129,27 @@ impl Expiry {
     }
 }
 
-/// Why no more of the jobs that are due expire.
+/// Why no more of the due jobs expire.
 #[derive(Clone, Copy, Debug, PartialEq, Eq)]
 pub(crate) enum Stop {
     /// The queue hasn't as many free bytes as the answer may need.
     NoRoom,
-    /// The allocator refused.
+    /// The allocator refused memory.
     NoMemory,
 }
 
-/// How long the answer to a job that expires is.
+/// The length of the answer to a job that expires.
 const TIMEOUT_LENGTH: usize = 13;
 
 /// Returns whether there is room for the answer to a job that expires.
 pub(crate) fn has_room<O: OutboundTransform + Drop>(outbox: &Outbox<O>) -> bool
-    ensures { (result ≡ true) ↔ (timeout_room O.OutboundTransform outbox.now.half ≤ free outbox.now.queue) }
+    ensures { (result ≡ true)
+        ↔ (timeout_room O.OutboundTransform outbox.now.half ≤ free outbox.now.queue) }
 {
     outbox.has_room(TIMEOUT_LENGTH)
 }
 
-/// A job that is due expires: it is gone, and answered so. An `Err` changes nothing.
+/// Expires a job that is due: it ends, and is answered by a status that states this. An `Err` changes nothing.
 pub(crate) fn expire_job<O: OutboundTransform + Drop>(
     alloc: Global,
     outbox: &mut Outbox<O>,
@@ -155,9 +160,11 @@ pub(crate) fn expire_job<O: OutboundTransform + Drop>(
 ) -> Result<(), Stop>
     requires job { (job : AJob) × IsJob jobs.old.list id job }
     requires room { 0 < expiry.old.room }
-    ensures ok { (job : AJob) → (at : IsJob jobs.old.list id job) → OnOk result (ExpiresAt O.OutboundTransform
+    ensures ok { (job : AJob) → (at : IsJob jobs.old.list id job)
+        → OnOk result (ExpiresAt O.OutboundTransform
         jobs.old index.old expiry.old outbox.old job at jobs.new index.new expiry.new outbox.new) }
-    ensures err { IfErr result (λ stop. IsStop O.OutboundTransform outbox.old stop × (jobs.new ≡ jobs.old) × (index.new ≡ index.old)
+    ensures err { IfErr result (λ stop. IsStop O.OutboundTransform outbox.old stop
+        × (jobs.new ≡ jobs.old) × (index.new ≡ index.old)
         × (expiry.new ≡ expiry.old) × (outbox.new ≡ outbox.old)) }
 {
     let Some((stream_id, deadline)) = jobs.place_of(id) else {
@@ -180,8 +187,8 @@ fn answer_timeout<O: OutboundTransform + Drop>(
     stream_id: u32,
 ) -> Result<(), Stop>
     requires { timeout_room O.OutboundTransform outbox.old.half ≤ free outbox.old.queue }
-    ensures ok { OnOk result (SendsSome O.OutboundTransform outbox.old
-        (SendsOwnAnswer Rules.Async O.OutboundTransform outbox.old.half stream_id timeout_response) outbox.new) }
+    ensures ok { OnOk result (SendsSome O.OutboundTransform outbox.old (SendsOwnAnswer Rules.Async
+        O.OutboundTransform outbox.old.half stream_id timeout_response) outbox.new) }
     ensures err { IfErr result (λ stop. (stop ≡ Stop.NoMemory) × (outbox.new ≡ outbox.old)) }
 {
     let Ok(response) = timeout_response(alloc) else {

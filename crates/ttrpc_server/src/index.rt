@@ -1,4 +1,4 @@
-//! What finds the jobs of a server: by the stream's id, and by the deadline.
+//! The index of a server's jobs, by stream id and by deadline. Of the functions here only `add` takes memory.
 ghost use Rattle.std.specs.Prelude.{◌≡◌, OnOk, OnErr, None};
 ghost use Rattle.ttrpc_server.specs.Kept.{Finds, FindsTheSame, Loses, job_found, no_index};
 
@@ -24,7 +24,7 @@ impl Model for Index {
 }
 
 impl Index {
-    /// It finds none. Takes no memory.
+    /// Returns an index without jobs.
     pub(crate) fn new(alloc: Global) -> Self
         ensures { result ≡ no_index }
     {
@@ -34,7 +34,7 @@ impl Index {
         }
     }
 
-    /// From now on the job of this id is found, under a stream id that has none. At an `Err` all are found as before.
+    /// Adds the job of this id, under a stream id that has none. At an `Err` all jobs are found as before.
     pub(crate) fn add(
         &mut self,
         stream_id: u32,
@@ -53,7 +53,7 @@ impl Index {
         Ok(())
     }
 
-    /// From now on the job of this id is found no more. Takes no memory.
+    /// Removes the job of this id.
     pub(crate) fn take_away(&mut self, stream_id: u32, id: JobId, deadline: Option<u128>)
         ensures { Loses self.old stream_id id deadline self.new }
     {
@@ -61,14 +61,14 @@ impl Index {
         self.deadlines.take_away(id, deadline);
     }
 
-    /// The deadlines of jobs, soonest first. Takes no memory.
+    /// Returns the deadlines of jobs, soonest first.
     pub(crate) fn deadlines(&self) -> &Deadlines
         ensures { result.now ≡ self.now.deadlines }
     {
         &self.deadlines
     }
 
-    /// The active job of this stream id. Takes no memory.
+    /// Returns the active job of this stream id, if there is one.
     pub(crate) fn job_of(&self, stream_id: u32) -> Option<JobId>
         ensures { result ≡ job_found self.now stream_id }
     {

@@ -1,4 +1,4 @@
-//! The jobs of a server that weren't answered, found by their ids.
+//! The jobs of a server that weren't answered, found by their ids. Of the functions here only `make` takes memory.
 ghost use Rattle.std.specs.Prelude.{◌≡◌, ◌<◌, ◌-◌, ◌+◌, ◌^◌, ◌++◌, IfErr, IfSome, IfNone, OnOk, Some, filter, length};
 ghost use Rattle.ttrpc_server.specs.declared.job.ActiveJob.{ActiveJob as AJob};
 ghost use Rattle.ttrpc_server.specs.State.{HandsOne, deadline_in, IsJob, IsTaken, IsUnknown, NoneWaits, Rising, no_jobs, waits, with_job};
@@ -20,7 +20,7 @@ pub(crate) struct Jobs {
     waiting: Table<()>,
     // The id of the last job that was made.
     last: JobId,
-    // The stream's id of the newest request, if async rules saw one.
+    // The stream id of the newest request, if async rules saw one.
     newest: Option<u32>,
 }
 
@@ -37,7 +37,7 @@ impl Model for Jobs {
 }
 
 impl Jobs {
-    /// No jobs. Takes no memory.
+    /// Returns an empty list of jobs.
     pub(crate) fn new(alloc: Global) -> Self
         ensures { result ≡ no_jobs }
     {
@@ -49,21 +49,21 @@ impl Jobs {
         }
     }
 
-    /// Returns the stream's id of the newest request, if there is one. Takes no memory.
+    /// Returns the stream id of the newest request, if there is one.
     pub(crate) fn newest(&self) -> Option<u32>
         ensures { result ≡ self.now.newest }
     {
         self.newest
     }
 
-    /// Notes which request is the newest. Takes no memory.
+    /// Sets the stream id of the newest request.
     pub(crate) fn note_newest(&mut self, newest: Option<u32>)
         ensures { self.new ≡ record self.old { newest = newest } }
     {
         self.newest = newest;
     }
 
-    /// The id of the next job, if one is left. Takes no memory.
+    /// Returns the id for the next job, if one is left.
     pub(crate) fn next_id(&self) -> Option<JobId>
         ensures some { IfSome result (λ id. id ≡ self.now.last + 1) }
         ensures none { IfNone result (self.now.last ≡ 2 ^ 64 - 1) }
@@ -72,7 +72,7 @@ impl Jobs {
         self.last.checked_add(1)
     }
 
-    /// Makes a job that waits. An `Err` changes nothing: no id is left, or no memory.
+    /// Makes a job that waits to be handed out. An `Err` changes nothing: no id is left, or memory was refused.
     pub(crate) fn make(
         &mut self,
         header: MessageHeader,
@@ -80,7 +80,8 @@ impl Jobs {
         body: Body,
     ) -> Result<(), Failure>
         ensures ok { OnOk result (self.new ≡ with_job self.old header request body) }
-        ensures err { IfErr result (λ failure. (self.new ≡ self.old) × FailsToMake self.old failure) }
+        ensures err { IfErr result
+            (λ failure. (self.new ≡ self.old) × FailsToMake self.old failure) }
     {
         if self.last == u64::MAX {
             return Err(Failure::JobIdsUsedUp);
@@ -103,7 +104,7 @@ impl Jobs {
         Ok(())
     }
 
-    /// Hands out the first job that waits. Takes no memory.
+    /// Hands out the first job that waits, if there is one.
     pub(crate) fn hand_out(&mut self) -> Option<Job>
         ensures given { IfSome result (λ job. HandsOne self.old.list job self.new.list) }
         ensures none { IfNone result ((self.new ≡ self.old) × NoneWaits self.old.list) }
@@ -132,9 +133,10 @@ impl Jobs {
         }
     }
 
-    /// The stream's id and the deadline of the job of this id, whether it was taken or waits. Takes no memory.
+    /// Returns the stream id and the deadline of the job of this id, whether it was taken or waits.
     pub(crate) fn place_of(&self, id: JobId) -> Option<(u32, Option<u128>)>
-        ensures { (job : AJob) → IsJob self.now.list id job → result ≡ Some (job.header.stream_id, deadline_in job.body) }
+        ensures { (job : AJob) → IsJob self.now.list id job
+            → result ≡ Some (job.header.stream_id, deadline_in job.body) }
     {
         match self.jobs.get(id) {
             Some(job) => Some((job.header.stream_id, job.body.deadline())),
@@ -142,7 +144,7 @@ impl Jobs {
         }
     }
 
-    /// Whether the job of this id waits. Takes no memory.
+    /// Returns whether the job of this id waits to be handed out.
     pub(crate) fn waits(&self, id: JobId) -> bool
         ensures { (job : AJob) → IsJob self.now.list id job → result ≡ waits job }
     {
@@ -152,10 +154,14 @@ impl Jobs {
         }
     }
 
-    /// Forgets the job of this id, whether it was taken or waits. Takes no memory.
+    /// Forgets the job of this id, whether it was taken or waits.
     pub(crate) fn end(&mut self, id: JobId)
+        // There is a job of this id.
         requires { (job : AJob) × IsJob self.old.list id job }
-        ensures ended { (job : AJob) → (at : IsJob self.old.list id job) → self.new.list ≡ at.front ++ at.back }
+        // The job is gone, and the others are as they were.
+        ensures ended { (job : AJob) → (at : IsJob self.old.list id job)
+            → self.new.list ≡ at.front ++ at.back }
+        // The last id and the newest request are as they were. The ids were rising, up to the last one.
         ensures last { self.new.last ≡ self.old.last }
         ensures newest { self.new.newest ≡ self.old.newest }
         ensures rise { Rising 0 self.old.list self.old.last }
@@ -164,7 +170,7 @@ impl Jobs {
         let _ = self.jobs.remove(id);
     }
 
-    /// How many jobs weren't answered. Takes no memory.
+    /// Returns how many jobs weren't answered.
     pub(crate) fn len(&self) -> usize
         ensures count { result ≡ length self.now.list }
         ensures small { result < 2 ^ 63 }
@@ -172,14 +178,14 @@ impl Jobs {
         self.jobs.len()
     }
 
-    /// A lemma, which does nothing when it runs: the ids of jobs rise, and none is above the last that was made.
+    /// States that the ids of jobs rise, and none is above the last that was made. A lemma, which does nothing when it runs.
     pub(crate) fn lemma_rise(&self)
         ensures { Rising 0 self.now.list self.now.last }
     {
         let _last = self.last;
     }
 
-    /// How many jobs wait to be handed out. Takes no memory.
+    /// Returns how many jobs wait to be handed out.
     pub(crate) fn waiting(&self) -> u64
         ensures count { result ≡ length (filter waits self.now.list) }
 
@@ -189,7 +195,7 @@ impl Jobs {
         self.waiting.len() as u64
     }
 
-    /// How many jobs were taken and not answered yet. Takes no memory.
+    /// Returns how many jobs were taken and not answered yet.
     pub(crate) fn taken(&self) -> u64
         ensures { result ≡ length self.now.list - length (filter waits self.now.list) }
     {

@@ -1,4 +1,4 @@
-//! Which methods and streams a server has.
+//! The methods and the streams that a server has. A function without an `alloc` argument takes no memory.
 ghost use Rattle.std.specs.Prelude.{◌≡◌, ℕ, List, [], string_bytes, OnOk, OnErr};
 ghost use Rattle.ttrpc_server.specs.State.{AddsName, AddsService, has_method, has_name, has_service, has_stream, knows, no_services};
 
@@ -7,8 +7,8 @@ use std::collections::{BTreeMap, BTreeSet};
 use std::marker::Model;
 use ttrpc_wire::Text;
 
-/// The methods and the streams of a server's services, each found by ordered search. A service is there once it has one
-/// of either, or was added by itself.
+/// The methods and the streams of a server's services, each found by ordered search. A service is there if it has a method or a stream, or
+/// was added by itself.
 #[derive(Drop)]
 pub struct Registry {
     methods: Names,
@@ -21,11 +21,12 @@ impl Model for Registry {
 
     ghost Value = { Services };
 
-    ghost view = { λ a. record { methods = a.methods; streams = a.streams; bare_openings = a.bare_openings } };
+    ghost view = { λ a.
+        record { methods = a.methods; streams = a.streams; bare_openings = a.bare_openings } };
 }
 
 impl Registry {
-    /// No services. Takes no memory.
+    /// Returns a registry without services. Takes no memory.
     pub fn new(alloc: Global) -> Registry
         ensures { result ≡ no_services }
     {
@@ -38,8 +39,11 @@ impl Registry {
 
     /// Adds a service, which may stay without methods and streams. An `Err` changes nothing.
     pub fn add_service(&mut self, alloc: Global, service: Text) -> Result<(), AllocError>
+        // At an `Ok` there is this service, with the others. The methods of each service are as before.
         ensures ok { OnOk result (AddsService self.old.methods service self.new.methods) }
-        ensures names { (s n : List ℕ) → has_name self.new.methods s n ≡ has_name self.old.methods s n }
+        ensures names { (s n : List ℕ)
+            → has_name self.new.methods s n ≡ has_name self.old.methods s n }
+        // The streams and the setting for bare openings are as they were, and an error changes nothing.
         ensures others { self.new.streams ≡ self.old.streams }
         ensures bare { self.new.bare_openings ≡ self.old.bare_openings }
         ensures err { OnErr result (self.new ≡ self.old) }
@@ -47,15 +51,17 @@ impl Registry {
         self.methods.add_service(alloc, service.into_string())
     }
 
-    /// Gives this service this method. An `Err` changes nothing.
+    /// Adds a method to a service. An `Err` changes nothing.
     pub fn add_method(
         &mut self,
         alloc: Global,
         service: Text,
         method: Text,
     ) -> Result<(), AllocError>
+        // At an `Ok` there is this service with this method, and otherwise the same names as before.
         ensures ok { OnOk result (AddsName self.old.methods service method self.new.methods) }
         ensures service { OnOk result (AddsService self.old.methods service self.new.methods) }
+        // The streams and the setting for bare openings are as they were, and an error changes nothing.
         ensures others { self.new.streams ≡ self.old.streams }
         ensures bare { self.new.bare_openings ≡ self.old.bare_openings }
         ensures err { OnErr result (self.new ≡ self.old) }
@@ -64,15 +70,17 @@ impl Registry {
             .add(alloc, service.into_string(), method.into_string())
     }
 
-    /// Gives this service this stream. An `Err` changes nothing.
+    /// Adds a stream to a service. An `Err` changes nothing.
     pub fn add_stream(
         &mut self,
         alloc: Global,
         service: Text,
         stream: Text,
     ) -> Result<(), AllocError>
+        // At an `Ok` there is this service with this stream, and otherwise the same names as before.
         ensures ok { OnOk result (AddsName self.old.streams service stream self.new.streams) }
         ensures service { OnOk result (AddsService self.old.streams service self.new.streams) }
+        // The methods and the setting for bare openings are as they were, and an error changes nothing.
         ensures others { self.new.methods ≡ self.old.methods }
         ensures bare { self.new.bare_openings ≡ self.old.bare_openings }
         ensures err { OnErr result (self.new ≡ self.old) }
@@ -81,36 +89,37 @@ impl Registry {
             .add(alloc, service.into_string(), stream.into_string())
     }
 
-    /// Whether a request that opens a stream brings no item where it has no payload and says nothing of that, as those of
-    /// peers written in Go. By default it brings an empty one, by the letter.
+    /// Sets whether a bare request that opens a stream brings no item. A bare request states that items follow and has an empty payload,
+    /// but lacks the flags for no data and for a close, as peers written in Go send it. By default it brings an empty item, by the letter
+    /// of the protocol.
     pub fn set_bare_openings(&mut self, bare: bool)
         ensures { self.new ≡ record self.old { bare_openings = bare } }
     {
         self.bare_openings = bare;
     }
 
-    /// What was set so.
+    /// Returns whether a bare request that opens a stream brings no item.
     pub(crate) fn has_bare_openings(&self) -> bool
         ensures { result ≡ self.now.bare_openings }
     {
         self.bare_openings
     }
 
-    /// Whether this service has this method. Takes no memory.
+    /// Returns whether this service has this method.
     pub fn has_method(&self, service: &Text, method: &Text) -> bool
         ensures { result ≡ has_method self.now service.now method.now }
     {
         self.methods.has(service.as_str(), method.as_str())
     }
 
-    /// Whether this service is there. Takes no memory.
+    /// Returns whether this service is there.
     pub fn has_service(&self, service: &Text) -> bool
         ensures { result ≡ has_service self.now service.now }
     {
         self.methods.knows(service.as_str()) || self.streams.knows(service.as_str())
     }
 
-    /// Whether this service has this stream. Takes no memory.
+    /// Returns whether this service has this stream.
     pub fn has_stream(&self, service: &Text, stream: &Text) -> bool
         ensures { result ≡ has_stream self.now service.now stream.now }
     {
@@ -130,11 +139,12 @@ impl Model for Names {
 
     ghost Value = { TheNames };
 
-    ghost view = { λ a. map (λ e. (string_bytes e.0, map string_bytes e.1.keys)) a.services.entries };
+    ghost view = { λ a. map
+        (λ e. (string_bytes e.0, map string_bytes e.1.keys)) a.services.entries };
 }
 
 impl Names {
-    /// None. Takes no memory.
+    /// Returns no names. Takes no memory.
     fn new(alloc: Global) -> Names
         ensures { result ≡ [] }
     {
@@ -143,7 +153,7 @@ impl Names {
         }
     }
 
-    /// One more service, without names if it wasn't there. An `Err` changes nothing.
+    /// Adds a service without names, if it isn't there. An `Err` changes nothing.
     fn add_service(&mut self, alloc: Global, service: String) -> Result<(), AllocError>
         ensures ok { OnOk result (AddsService self.old (string_bytes service) self.new) }
         ensures names { (s n : List ℕ) → has_name self.new s n ≡ has_name self.old s n }
@@ -156,16 +166,17 @@ impl Names {
         Ok(())
     }
 
-    /// Whether this service is there. Takes no memory.
+    /// Returns whether this service is there.
     fn knows(&self, service: &str) -> bool
         ensures { result ≡ knows self.now service.now }
     {
         self.services.contains_key(service)
     }
 
-    /// One more. An `Err` changes nothing.
+    /// Adds a name under a service. An `Err` changes nothing.
     fn add(&mut self, alloc: Global, service: String, name: String) -> Result<(), AllocError>
-        ensures ok { OnOk result (AddsName self.old (string_bytes service) (string_bytes name) self.new) }
+        ensures ok { OnOk result
+            (AddsName self.old (string_bytes service) (string_bytes name) self.new) }
         ensures service { OnOk result (AddsService self.old (string_bytes service) self.new) }
         ensures err { OnErr result (self.new ≡ self.old) }
     {
@@ -179,7 +190,7 @@ impl Names {
         Ok(())
     }
 
-    /// Whether this name is under this service. Takes no memory.
+    /// Returns whether this name is under this service.
     fn has(&self, service: &str, name: &str) -> bool
         ensures { result ≡ has_name self.now service.now name.now }
     {

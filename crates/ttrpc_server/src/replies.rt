@@ -1,5 +1,5 @@
-//! How a response is sent: fitted to the limit, in a frame of its own; and why it isn't.
-ghost use Rattle.std.specs.Prelude.{◌≡◌, ◌≤◌, ◌+◌, IfOk, IfErr, OnOk};
+//! Sending a response, fitted to the limit, in a frame of its own, and the reasons why it isn't sent.
+ghost use Rattle.std.specs.Prelude.{◌≡◌, ◌≤◌, ◌+◌, ◌++◌, unwrap_or, IfOk, IfErr, OnOk};
 ghost use Rattle.ttrpc_connection.specs.Frames.{safe_limit};
 ghost use Rattle.ttrpc_server.specs.Protocol.{advice, fit_to_limit, fitted, IsResponseFrame, SendsOwnAnswer, Responds, response_bytes, response_size};
 ghost use Rattle.ttrpc_server.specs.Inside.{HasRoom, IsUnfit, IsUnsentFor, SendsAnswer, SendsSome, TellsUnsent};
@@ -9,24 +9,25 @@ ghost use Rattle.ttrpc_proto.specs.Framing.Queue.{free};
 use crate::responses::{limit_response, oversize_response};
 use crate::rules::Rules;
 use std::alloc::{AllocError, Global};
+use ttrpc_connection::parts::parts_of;
 use ttrpc_connection::{Failure, Outbox};
 use ttrpc_proto::{Error, GenMessage, MESSAGE_LENGTH_MAX, MessageHeader, Queued, Response};
 use ttrpc_secure::context::errors::{unsafe_payload_error, unsealed_error};
 use ttrpc_secure::sending::SendError;
 use ttrpc_secure::{OutboundTransform, TransformError};
-use ttrpc_wire::codec::message::encode_with_room;
+use ttrpc_wire::codec::in_place::{Around, encode_around};
 use ttrpc_wire::{Blob, Codec, CodecError, Text};
 
 /// Why a response wasn't sent.
 #[derive(Debug, Drop)]
 pub(crate) enum Unsent {
-    /// It has this many bytes, which are more than fit with the half's overhead.
+    /// The response has this many bytes, which are more than fit with the half's overhead.
     AboveLimit(usize),
-    /// The queue hasn't as many free bytes as its frame may need.
+    /// The queue hasn't as many free bytes as the response's frame may need.
     NoRoom,
-    /// The half refused it, for this reason.
+    /// The half refused the response, for this reason.
     Unsealed(Text),
-    /// The allocator refused.
+    /// The allocator refused memory.
     NoMemory,
 }
 
@@ -42,7 +43,7 @@ impl From<AllocError> for Unsent {
 }
 
 impl Unsent {
-    /// The error for it, where payloads have this limit.
+    /// Returns the error for this reason, with this limit for payloads.
     pub(crate) fn error(self, alloc: Global, rules: Rules, limit: usize) -> Error
         ensures { TellsUnsent rules limit self result }
     {
@@ -55,7 +56,7 @@ impl Unsent {
     }
 }
 
-/// What a server adds to the text about the safe limit.
+/// Returns the advice that a server adds to the text about the safe limit.
 pub(crate) fn advice(rules: Rules) -> &'static str
     ensures { result.now ≡ advice rules }
 {
@@ -65,72 +66,90 @@ pub(crate) fn advice(rules: Rules) -> &'static str
     }
 }
 
-/// The written form of the response, or of one that stands for it where it is too long.
-fn fitted_bytes(
+/// Returns the response to send in place of this one, or none if this one isn't too long.
+fn stand_in(
     alloc: Global,
     rules: Rules,
     limit: usize,
     response: &Response,
-) -> Result<Vec<u8>, Unsent>
+) -> Result<Option<Response>, Unsent>
     requires { limit ≤ MESSAGE_LENGTH_MAX }
-    ensures ok { IfOk result (λ bytes. (bytes.items ≡ response_bytes (fitted rules limit response.now))
+    ensures ok { IfOk result
+        (λ instead. (unwrap_or instead response.now ≡ fitted rules limit response.now)
         × (response_size (fitted rules limit response.now) ≤ limit)) }
     ensures err { IfErr result (IsUnfit rules limit response.now) }
 {
     match rules {
-        Rules::Sync => limited_bytes(alloc, limit, response),
-        Rules::Async => short_bytes(alloc, limit, response),
+        Rules::Sync => limited(alloc, limit, response),
+        Rules::Async => shortened(alloc, limit, response),
     }
 }
 
-/// The same under async rules: of the response, or of one that says that it is longer than a message may be.
-fn short_bytes(alloc: Global, limit: usize, response: &Response) -> Result<Vec<u8>, Unsent>
+/// Returns the response to send in place of this one under async rules, or none. A response that is longer than a message may be is first
+/// replaced by one that states this.
+fn shortened(alloc: Global, limit: usize, response: &Response) -> Result<Option<Response>, Unsent>
     requires { limit ≤ MESSAGE_LENGTH_MAX }
-    ensures ok { IfOk result (λ bytes. (bytes.items ≡ response_bytes (fitted Rules.Async limit response.now))
+    ensures ok { IfOk result
+        (λ instead. (unwrap_or instead response.now ≡ fitted Rules.Async limit response.now)
         × (response_size (fitted Rules.Async limit response.now) ≤ limit)) }
     ensures err { IfErr result (IsUnfit Rules.Async limit response.now) }
 {
     let size = response.size() as usize;
     if size <= MESSAGE_LENGTH_MAX {
-        return limited_bytes(alloc, limit, response);
+        return limited(alloc, limit, response);
     }
     let instead = oversize_response(alloc, size)?;
-    limited_bytes(alloc, limit, &instead)
+    let other = limited(alloc, limit, &instead)?;
+    Ok(Some(other.unwrap_or(instead)))
 }
 
-/// The written form of the response, or of one that says that it has more bytes than the limit.
-fn limited_bytes(alloc: Global, limit: usize, response: &Response) -> Result<Vec<u8>, Unsent>
+/// Returns the response to send in place of this one for the limit alone, or none. A response with more bytes than the limit is replaced by
+/// one that states this.
+fn limited(alloc: Global, limit: usize, response: &Response) -> Result<Option<Response>, Unsent>
     requires { limit ≤ MESSAGE_LENGTH_MAX }
-    ensures ok { IfOk result (λ bytes. (bytes.items ≡ response_bytes (fit_to_limit limit response.now))
+    ensures ok { IfOk result
+        (λ instead. (unwrap_or instead response.now ≡ fit_to_limit limit response.now)
         × (response_size (fit_to_limit limit response.now) ≤ limit)) }
     ensures err { IfErr result (IsUnfit Rules.Sync limit response.now) }
 {
     let size = response.size() as usize;
     if size <= limit {
-        return encoded(alloc, response, size);
+        return Ok(None);
     }
     let instead = limit_response(alloc, size, limit)?;
     let size = instead.size() as usize;
     if size > limit {
         return Err(Unsent::AboveLimit(size));
     }
-    encoded(alloc, &instead, size)
+    Ok(Some(instead))
 }
 
-/// The written form of a response that has this size, and is no longer than a message may be.
-fn encoded(alloc: Global, response: &Response, size: usize) -> Result<Vec<u8>, Unsent>
+/// Returns the replacement of a response, or the response if there is none.
+fn either<'a>(instead: &'a Option<Response>, response: &'a Response) -> &'a Response
+    ensures { result.now ≡ unwrap_or instead.now response.now }
+{
+    match instead {
+        Some(instead) => instead,
+        None => response,
+    }
+}
+
+/// Writes a response, which is no longer than a message may be, without its payload.
+fn written_around(alloc: Global, response: &Response) -> Result<Around, Unsent>
     requires { response_size response.now ≤ MESSAGE_LENGTH_MAX }
-    ensures ok { IfOk result (λ bytes. bytes.items ≡ response_bytes response.now) }
+    ensures ok { IfOk result (λ around. around.before ++ (response.now.payload ++ around.after)
+        ≡ response_bytes response.now) }
     ensures err { IfErr result (λ unsent. unsent ≡ Unsent.NoMemory) }
 {
-    match encode_with_room(alloc, response, size) {
-        Ok(bytes) => Ok(bytes),
+    let room = (response.size() as usize).saturating_sub(response.payload.len());
+    match encode_around(alloc, response, room) {
+        Ok(around) => Ok(around),
         Err(CodecError::NoMemory) => Err(Unsent::NoMemory),
         Err(_) => unreachable!(),
     }
 }
 
-/// The frame that carries a response, without its payload. It is nobody's, since responses aren't thrown away.
+/// Returns the frame for a response, without its payload. The frame has no owner, since responses aren't thrown away.
 pub(crate) fn response_frame(alloc: Global, stream_id: u32) -> Queued
     ensures { IsResponseFrame stream_id result }
 {
@@ -145,7 +164,7 @@ pub(crate) fn response_frame(alloc: Global, stream_id: u32) -> Queued
     }
 }
 
-/// Sends a response, or one that stands for it where it is too long. An `Err` changes nothing.
+/// Sends a response, or its replacement if it is too long. An `Err` changes nothing.
 pub(crate) fn send_response<O: OutboundTransform + Drop>(
     alloc: Global,
     outbox: &mut Outbox<O>,
@@ -153,14 +172,16 @@ pub(crate) fn send_response<O: OutboundTransform + Drop>(
     stream_id: u32,
     response: &Response,
 ) -> Result<(), Unsent>
-    ensures ok { OnOk result (SendsSome O.OutboundTransform outbox.old
-        (Responds rules (safe_limit O.OutboundTransform outbox.old.half) stream_id response.now) outbox.new) }
+    ensures ok { OnOk result (SendsSome O.OutboundTransform outbox.old (Responds rules
+        (safe_limit O.OutboundTransform outbox.old.half) stream_id response.now) outbox.new) }
     ensures err { IfErr result (λ unsent. (outbox.new ≡ outbox.old)
         × IsUnsentFor rules O.OutboundTransform outbox.old stream_id response.now unsent) }
 {
-    let bytes = fitted_bytes(alloc, rules, outbox.limit(), response)?;
+    let instead = stand_in(alloc, rules, outbox.limit(), response)?;
+    let fitted = either(&instead, response);
+    let around = written_around(alloc, fitted)?;
     let frame = response_frame(alloc, stream_id);
-    match outbox.send(alloc, frame, bytes) {
+    match outbox.send(alloc, frame, parts_of(fitted, &around)) {
         Ok(()) => Ok(()),
         Err(SendError::Failed(TransformError::Refused(why))) => Err(Unsent::Unsealed(why)),
         Err(SendError::Failed(TransformError::NoMemory)) => Err(Unsent::NoMemory),
@@ -169,7 +190,7 @@ pub(crate) fn send_response<O: OutboundTransform + Drop>(
     }
 }
 
-/// Sends the core's own answer, for which there is room, or leaves it out where it can't be sent. An `Err` changes nothing.
+/// Sends an answer of the core itself, for which there is room, or leaves it out if it can't be sent. An `Err` changes nothing.
 pub(crate) fn send_own_answer<O: OutboundTransform + Drop>(
     alloc: Global,
     outbox: &mut Outbox<O>,
@@ -178,9 +199,10 @@ pub(crate) fn send_own_answer<O: OutboundTransform + Drop>(
     response: &Response,
 ) -> Result<(), Failure>
     requires { HasRoom rules O.OutboundTransform outbox.old response.now }
-    ensures ok { OnOk result (SendsSome O.OutboundTransform outbox.old
-        (SendsOwnAnswer rules O.OutboundTransform outbox.old.half stream_id response.now) outbox.new) }
-    ensures err { IfErr result (λ failure. (outbox.new ≡ outbox.old) × (failure ≡ Failure.NoMemory)) }
+    ensures ok { OnOk result (SendsSome O.OutboundTransform outbox.old (SendsOwnAnswer rules
+        O.OutboundTransform outbox.old.half stream_id response.now) outbox.new) }
+    ensures err { IfErr result
+        (λ failure. (outbox.new ≡ outbox.old) × (failure ≡ Failure.NoMemory)) }
 {
     match send_response(alloc, outbox, rules, stream_id, response) {
         Ok(()) => Ok(()),
@@ -191,7 +213,7 @@ pub(crate) fn send_own_answer<O: OutboundTransform + Drop>(
     }
 }
 
-/// Sends what is answered, if anything is, as there is room for the longest answer. An `Err` changes nothing.
+/// Sends an answer of the core itself, if there is one, with room for the longest answer. An `Err` changes nothing.
 pub(crate) fn send_answer<O: OutboundTransform + Drop>(
     alloc: Global,
     outbox: &mut Outbox<O>,
@@ -202,7 +224,8 @@ pub(crate) fn send_answer<O: OutboundTransform + Drop>(
     requires { MESSAGE_HEADER_LENGTH + MESSAGE_LENGTH_MAX ≤ free outbox.old.queue }
     ensures ok { OnOk result (SendsSome O.OutboundTransform outbox.old
         (SendsAnswer rules O.OutboundTransform outbox.old.half stream_id answer.now) outbox.new) }
-    ensures err { IfErr result (λ failure. (outbox.new ≡ outbox.old) × (failure ≡ Failure.NoMemory)) }
+    ensures err { IfErr result
+        (λ failure. (outbox.new ≡ outbox.old) × (failure ≡ Failure.NoMemory)) }
 {
     match answer {
         None => Ok(()),

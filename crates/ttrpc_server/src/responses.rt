@@ -1,4 +1,4 @@
-//! The answers that a core gives by itself, and the error for an answer to no job.
+//! The answers that a core gives by itself, and the errors of its calls.
 ghost use Rattle.std.specs.Prelude.{◌≡◌, codes, string_bytes, IfOk};
 ghost use Rattle.ttrpc_proto.specs.Framing.Header.Oversize.{oversize_text};
 ghost use Rattle.ttrpc_connection.specs.Failure.{IsTold};
@@ -11,7 +11,7 @@ use ttrpc_proto::{Error, Response, ResponseInit, get_status};
 use ttrpc_secure::context::errors::others_error;
 use ttrpc_wire::{Code, CodecError, Text};
 
-/// The answer to a message that is longer than a message may be.
+/// Returns the answer to a message that is longer than a message may be.
 pub fn oversize_response(alloc: Global, length: usize) -> Result<Response, AllocError>
     ensures { IfOk result (λ response.
         response ≡ status_response Code.INVALID_ARGUMENT (oversize_text length)) }
@@ -20,7 +20,7 @@ pub fn oversize_response(alloc: Global, length: usize) -> Result<Response, Alloc
     Ok(response_of(alloc, Code::INVALID_ARGUMENT, text))
 }
 
-/// The answer to a request whose path no handler has.
+/// Returns the answer to a request with a path that has no handler.
 pub fn path_response(alloc: Global, service: &Text, method: &Text) -> Result<Response, AllocError>
     ensures { IfOk result (λ response.
         response ≡ status_response Code.INVALID_ARGUMENT (path_text service.now method.now)) }
@@ -29,7 +29,7 @@ pub fn path_response(alloc: Global, service: &Text, method: &Text) -> Result<Res
     Ok(response_of(alloc, Code::INVALID_ARGUMENT, text))
 }
 
-/// The answer to a request whose service isn't there.
+/// Returns the answer to a request for a service that isn't there.
 pub fn service_response(alloc: Global, service: &Text) -> Result<Response, AllocError>
     ensures { IfOk result (λ response.
         response ≡ status_response Code.INVALID_ARGUMENT (service_text service.now)) }
@@ -38,7 +38,7 @@ pub fn service_response(alloc: Global, service: &Text) -> Result<Response, Alloc
     Ok(response_of(alloc, Code::INVALID_ARGUMENT, text))
 }
 
-/// The answer to a request whose service has no such method.
+/// Returns the answer to a request for a method that its service lacks.
 pub fn method_response(alloc: Global, method: &Text) -> Result<Response, AllocError>
     ensures { IfOk result (λ response.
         response ≡ status_response Code.UNIMPLEMENTED (method_text method.now)) }
@@ -47,23 +47,25 @@ pub fn method_response(alloc: Global, method: &Text) -> Result<Response, AllocEr
     Ok(response_of(alloc, Code::UNIMPLEMENTED, text))
 }
 
-/// The answer to a frame under an even id.
+/// Returns the answer to a frame under an even id.
 pub fn even_id_response(alloc: Global) -> Result<Response, AllocError>
-    ensures { IfOk result (λ response. response ≡ status_response Code.INVALID_ARGUMENT even_id_text) }
+    ensures { IfOk result
+        (λ response. response ≡ status_response Code.INVALID_ARGUMENT even_id_text) }
 {
     let text = String::from_str(alloc, "stream id must be odd")?;
     Ok(response_of(alloc, Code::INVALID_ARGUMENT, text))
 }
 
-/// The answer to data that no active stream takes.
+/// Returns the answer to data that no active stream takes.
 pub fn inactive_response(alloc: Global) -> Result<Response, AllocError>
-    ensures { IfOk result (λ response. response ≡ status_response Code.INVALID_ARGUMENT inactive_text) }
+    ensures { IfOk result
+        (λ response. response ≡ status_response Code.INVALID_ARGUMENT inactive_text) }
 {
     let text = String::from_str(alloc, "Stream is no longer active")?;
     Ok(response_of(alloc, Code::INVALID_ARGUMENT, text))
 }
 
-/// The answer to a request under an id that has an active job.
+/// Returns the answer to a request under an id that has an active job.
 pub fn in_use_response(alloc: Global, stream_id: u32) -> Result<Response, AllocError>
     ensures { IfOk result (λ response.
         response ≡ status_response Code.INVALID_ARGUMENT (in_use_text stream_id)) }
@@ -72,7 +74,7 @@ pub fn in_use_response(alloc: Global, stream_id: u32) -> Result<Response, AllocE
     Ok(response_of(alloc, Code::INVALID_ARGUMENT, text))
 }
 
-/// Makes the answer to a request whose id isn't above that of the newest request.
+/// Returns the answer to a request under an id that isn't above that of the newest request.
 pub fn not_above_response(
     alloc: Global,
     stream_id: u32,
@@ -85,7 +87,7 @@ pub fn not_above_response(
     Ok(response_of(alloc, Code::INVALID_ARGUMENT, text))
 }
 
-/// The answer to a request whose job expired.
+/// Returns the answer to a request if its job expired.
 pub fn timeout_response(alloc: Global) -> Result<Response, AllocError>
     ensures { IfOk result (λ response. response ≡ timeout_response) }
 {
@@ -93,7 +95,7 @@ pub fn timeout_response(alloc: Global) -> Result<Response, AllocError>
     Ok(response_of(alloc, Code::DEADLINE_EXCEEDED, text))
 }
 
-/// The answer to a request whose handler gave an error. It is never without its text.
+/// Returns the answer to a request if its handler returned an error. The answer always has the error's text.
 pub fn error_response(alloc: Global, error: &Error) -> Result<Response, AllocError>
     ensures { IfOk result (IsErrorResponse error.now) }
 {
@@ -101,7 +103,7 @@ pub fn error_response(alloc: Global, error: &Error) -> Result<Response, AllocErr
     Ok(response_of(alloc, Code::UNKNOWN, text))
 }
 
-/// The answer to a request whose payload the inbound half didn't open, for this reason.
+/// Returns the answer to a request that the inbound half didn't open, for this reason.
 pub fn unopened_response(alloc: Global, why: &Text) -> Result<Response, AllocError>
     ensures { IfOk result (λ response.
         response ≡ status_response Code.UNKNOWN (unopened_response_text why.now)) }
@@ -110,8 +112,7 @@ pub fn unopened_response(alloc: Global, why: &Text) -> Result<Response, AllocErr
     Ok(response_of(alloc, Code::UNKNOWN, text))
 }
 
-/// The answer to a request that doesn't read as one. The clause leaves its text open, as it leaves those of
-/// `CodecError`.
+/// Returns the answer to a payload that can't be read as a request. The clause leaves the text open, as it leaves those of `CodecError`.
 pub fn unreadable_response(alloc: Global, error: &CodecError) -> Result<Response, AllocError>
     ensures { IfOk result (IsStatusResponse Code.INVALID_ARGUMENT) }
 {
@@ -119,7 +120,7 @@ pub fn unreadable_response(alloc: Global, error: &CodecError) -> Result<Response
     Ok(response_of(alloc, Code::INVALID_ARGUMENT, text))
 }
 
-/// The answer in place of one whose payload may become longer than a message may be.
+/// Returns the answer in place of one that may become longer than a message may be.
 pub fn limit_response(alloc: Global, length: usize, limit: usize) -> Result<Response, AllocError>
     ensures { IfOk result (λ response.
         response ≡ status_response Code.INVALID_ARGUMENT (limit_text length limit)) }
@@ -130,21 +131,21 @@ pub fn limit_response(alloc: Global, length: usize, limit: usize) -> Result<Resp
     Ok(response_of(alloc, Code::INVALID_ARGUMENT, text))
 }
 
-/// The error for an answer to a job that isn't there, or `NoMemory` where memory for its text was refused.
+/// Returns the error for an answer to a job that isn't there, or `NoMemory` if memory for its text was refused.
 pub fn unknown_job_error(alloc: Global) -> Error
     ensures { IsTold (Error.Others (codes "unknown job")) result }
 {
     others_error(String::from_str(alloc, "unknown job"))
 }
 
-/// The error for a call on the stream of a job that has none, or `NoMemory` where memory for its text was refused.
+/// Returns the error for a call on the stream of a job that has none, or `NoMemory` if memory for its text was refused.
 pub fn unknown_stream_error(alloc: Global) -> Error
     ensures { IsTold (Error.Others (codes "unknown stream")) result }
 {
     others_error(String::from_str(alloc, "unknown stream"))
 }
 
-/// The error for a call that the server's rules don't have, or `NoMemory` where memory for its text was refused.
+/// Returns the error for a call that the server's rules don't have, or `NoMemory` if memory for its text was refused.
 pub fn other_rules_error(alloc: Global) -> Error
     ensures { IsTold (Error.Others (codes "wrong rules for this call")) result }
 {

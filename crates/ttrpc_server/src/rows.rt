@@ -1,4 +1,4 @@
-//! The table: which case a frame is, what a request does that was read, and what is answered to either.
+//! The table: the case of each frame, the action of a request that was read, and the answer to each.
 ghost use Rattle.std.specs.Prelude.{◌≡◌, IfOk};
 ghost use Rattle.ttrpc_server.specs.Table.{asked_answer, asked_of, async_case, case_answer, case_of, data_case, inlet_case, newer_case, opened_case, sync_case};
 
@@ -15,58 +15,59 @@ use ttrpc_proto::{
 };
 use ttrpc_wire::{Blob, Text};
 
-/// What an id has for a frame under it.
+/// The state of a stream id for a frame under it.
 #[derive(Clone, Copy, Debug, PartialEq, Eq)]
 pub enum Inlet {
-    /// No active job.
+    /// The id has no active job.
     Absent,
     /// An active job that takes no data.
     Busy,
     /// The job of a stream, which takes data.
     Taking,
-    /// The job of a stream whose end came: data behind it are passed over.
+    /// The job of a stream after its end came: later data are ignored.
     Full,
 }
 
-/// Which case of the table a frame is, before its request is read.
+/// The case of a frame in the table, before its request is read.
 #[derive(Debug, Drop)]
 pub enum Case {
-    /// It does nothing.
+    /// The frame does nothing.
     Skipped,
     /// A message of this length is too long.
     Oversize(usize),
-    /// The inbound half didn't open it, for this reason.
+    /// The inbound half didn't open the payload, for this reason.
     Unopened(Text),
-    /// Its id is even.
+    /// The frame's id is even.
     EvenId,
-    /// It is data, which no active stream takes.
+    /// Data that no active stream takes.
     Inactive,
-    /// Its id has an active job.
+    /// The frame's id has an active job.
     InUse,
-    /// Its id isn't above this one, that of the newest request.
+    /// The frame's id isn't above this one, that of the newest request.
     NotAbove(u32),
-    /// This is to be read as a request.
+    /// This payload is to be read as a request.
     Asks(Blob),
-    /// These data are put into the mailbox of its id's stream.
+    /// These data are put into the mailbox of the stream of their id.
     PutsIn(Blob),
 }
 
-/// What a request does that was read.
+/// The action of a request that was read.
 #[derive(Clone, Copy, Debug, PartialEq, Eq)]
 pub enum Asked {
-    /// A job of one response is made of it.
+    /// A unary job is made of the request.
     Call,
-    /// A stream's job is made of it.
+    /// A stream's job is made of the request.
     Stream,
-    /// It is answered that there is no such path.
+    /// The answer is that there is no such path.
     NoPath,
-    /// It is answered that there is no such service.
+    /// The answer is that there is no such service.
     NoService,
-    /// It is answered that the service has no such method.
+    /// The answer is that the service has no such method.
     NoMethod,
 }
 
-/// Returns the case of a frame, by what was opened, the newest request and what its id has. The first test that fits counts.
+/// Returns the case of a frame, by the result of the inbound half, the newest request and the state of the frame's id. The first test that
+/// fits counts.
 pub fn case_of(
     rules: Rules,
     header: &MessageHeader,
@@ -86,7 +87,7 @@ pub fn case_of(
     }
 }
 
-// The case of a frame whose payload was opened.
+// Returns the case of a frame with a payload that was opened.
 fn opened_case(
     rules: Rules,
     header: &MessageHeader,
@@ -132,7 +133,7 @@ fn async_case(header: &MessageHeader, plain: Blob, newest: Option<u32>, inlet: I
     Case::Skipped
 }
 
-// Data, by what their id has.
+// Returns the case of data, by the state of their id.
 fn data_case(plain: Blob, inlet: Inlet) -> Case
     ensures { result ≡ data_case plain inlet }
 {
@@ -143,7 +144,7 @@ fn data_case(plain: Blob, inlet: Inlet) -> Case
     }
 }
 
-// A request, by what its id has.
+// Returns the case of a request, by the state of its id.
 fn inlet_case(stream_id: u32, newest: Option<u32>, plain: Blob, inlet: Inlet) -> Case
     ensures { result ≡ inlet_case stream_id newest plain inlet }
 {
@@ -153,7 +154,7 @@ fn inlet_case(stream_id: u32, newest: Option<u32>, plain: Blob, inlet: Inlet) ->
     }
 }
 
-// A request whose id has no job, by the newest request.
+// Returns the case of a request under an id without a job, by the newest request.
 fn newer_case(stream_id: u32, newest: Option<u32>, plain: Blob) -> Case
     ensures { result ≡ newer_case stream_id newest plain }
 {
@@ -163,7 +164,7 @@ fn newer_case(stream_id: u32, newest: Option<u32>, plain: Blob) -> Case
     }
 }
 
-/// What is answered at a case.
+/// Returns the answer to a frame of this case, if there is one.
 pub fn case_response(
     alloc: Global,
     header: &MessageHeader,
@@ -184,7 +185,7 @@ pub fn case_response(
     }
 }
 
-/// What a request does, by what the server has.
+/// Returns the action of a request, by the methods and streams that the server has.
 pub fn asked_of(rules: Rules, registry: &Registry, request: &Request) -> Asked
     ensures { result ≡ asked_of rules registry.now request.now }
 {
@@ -199,7 +200,7 @@ pub fn asked_of(rules: Rules, registry: &Registry, request: &Request) -> Asked
     }
 }
 
-/// What is answered to a request that was read.
+/// Returns the answer to a request that was read, if there is one.
 pub fn asked_response(
     alloc: Global,
     request: &Request,

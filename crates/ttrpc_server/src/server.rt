@@ -1,4 +1,4 @@
-//! The core of a server: frames in, jobs and responses out.
+//! The core of a server: frames go in, and jobs and responses come out. A call without an `alloc` argument takes no memory.
 ghost use Rattle.std.specs.Prelude.{◌≡◌, ◌≢◌, ◌⊎◌, ◌<◌, ◌≤◌, ◌-◌, ◌^◌, ◌++◌, ◌↔◌, ℕ, List, [], filter, true, false, length, is_some, option_to_list, IfOk, IfErr, OnOk, OnErr, IfSome, IfNone, Ok, Err, Some, None};
 ghost use Rattle.ttrpc_proto.specs.declared.error.Error.{Error as AnError};
 ghost use Rattle.ttrpc_proto.specs.declared.messages.Response.{Response as AResponse};
@@ -20,6 +20,7 @@ use crate::responses::{error_response, other_rules_error, unknown_job_error};
 use crate::rules::Rules;
 use crate::state::ServerState;
 use std::alloc::Global;
+use std::io::ErrorKind;
 use ttrpc_connection::{Connection, Failure};
 use ttrpc_proto::{Error, Response};
 use ttrpc_secure::{ConnectionContext, ConnectionData, InboundTransform, OutboundTransform};
@@ -31,7 +32,7 @@ pub struct ServerCore<O, I> {
     pub(crate) connection: Connection<O, I>,
 }
 
-/// Written out so that a crate above proves nothing of the parts that are dropped here.
+/// The method is written out, so that a crate above proves nothing about the parts that are dropped here.
 impl<O: Drop, I: Drop> Drop for ServerCore<O, I> {
     fn drop(self) {
         let ServerCore {
@@ -42,37 +43,41 @@ impl<O: Drop, I: Drop> Drop for ServerCore<O, I> {
 }
 
 impl<O: OutboundTransform + Drop, I: InboundTransform + Drop> ServerCore<O, I> {
-    /// A core without jobs, over a connection of this context. Takes no memory.
+    /// Returns a core without jobs, over a connection of this context. Returns `NoMemory` if the memory for the frames that are to wait was
+    /// refused.
     pub fn new(
         alloc: Global,
         rules: Rules,
         registry: Registry,
         context: ConnectionContext<O, I>,
-    ) -> Self
-        ensures { result ≡ new_core rules registry (facts_of context.connection_data.entries) context.outbound context.inbound }
+    ) -> Result<Self, Error>
+        ensures ok { IfOk result (λ core. core ≡ new_core rules registry
+            (facts_of context.connection_data.entries) context.outbound context.inbound) }
+        ensures only_memory { IfErr result (λ e. e ≡ AnError.NoMemory) }
     {
-        ServerCore {
+        let connection = Connection::new(alloc, context)?;
+        Ok(ServerCore {
             state: ServerState::new(alloc, rules, registry),
-            connection: Connection::new(alloc, context),
-        }
+            connection,
+        })
     }
 
-    /// What is known of the connection, which stays as its context had it.
+    /// Returns the facts known about the connection, as its context had them.
     pub fn connection_data(&self) -> &ConnectionData
         ensures { facts_of result.now.entries ≡ self.now.connection.known }
     {
         self.connection.connection_data()
     }
 
-    /// The rules that it keeps.
+    /// Returns the rules that the server follows.
     pub fn rules(&self) -> Rules
         ensures { result ≡ self.now.state.rules }
     {
         self.state.rules()
     }
 
-    /// A lemma, which does nothing that stays when it runs: under async rules a stream id has at most one active job, under sync
-    /// rules no job is a stream's, job ids rise, and what waits to be written is a queue.
+    /// States that under async rules a stream id has at most one active job, and under sync rules no job is a stream's. Job ids rise, and
+    /// the queue has the properties of every queue. A lemma, which has no effect when it runs.
     pub fn lemma_is_server(&self)
         ensures single { self.now.state.rules ≡ Rules.Async → AreSingle self.now.state.jobs.list }
         ensures unary { self.now.state.rules ≡ Rules.Sync → AreUnary self.now.state.jobs.list }
@@ -83,26 +88,28 @@ impl<O: OutboundTransform + Drop, I: InboundTransform + Drop> ServerCore<O, I> {
         self.connection.outbox.lemma_is_queue();
     }
 
-    /// Takes a piece, and returns how many bytes were taken: all, or those up to the end of a frame after which fewer than
-    /// 4194314 bytes are free in the queue. None are taken, and nothing changes, while fewer are free or after `drain`. Each frame
-    /// that is whole with the piece acts, in order. The connection fails if memory for a frame is refused or job ids are used up;
-    /// then and from then on the answer is that failure. Under sync rules the moment `now`, in nanoseconds, plays no part.
+    /// Takes a piece of input, and returns the number of bytes taken. The core takes all bytes, or those up to the end of a frame after
+    /// which fewer than 4194314 bytes are free in the queue. While fewer are free, or after `drain`, it takes none and changes nothing.
+    /// Each frame that is whole with the piece acts, in order. The connection fails if memory for a frame is refused or job ids are used
+    /// up. Then and from then on the call returns that failure. Under sync rules the moment `now`, in nanoseconds, has no effect.
     pub fn feed(&mut self, alloc: Global, piece: &[u8], now: u64) -> Result<usize, Error>
-        ensures { TakesOrDrains (serving O.OutboundTransform I.InboundTransform) self.old.state self.old.connection piece.now now result self.new.state self.new.connection }
+        ensures { TakesOrDrains (serving O.OutboundTransform I.InboundTransform) self.old.state
+            self.old.connection piece.now now result self.new.state self.new.connection }
     {
         self.connection.feed(alloc, &mut self.state, piece, now)
     }
 
-    /// Takes a front of the piece, and says how many bytes: at least one of a piece that isn't empty, and none behind the
-    /// first frame that is whole with it. That frame acts. Otherwise as `feed`.
+    /// Takes the first bytes of the piece, and returns how many. The number is at least 1 if the piece isn't empty, and no byte after the
+    /// end of the first whole frame is taken. The frame acts. Otherwise the call does the same as `feed`.
     pub fn feed_front(&mut self, alloc: Global, piece: &[u8], now: u64) -> Result<usize, Error>
-        ensures { TakesFrontOrDrains (serving O.OutboundTransform I.InboundTransform) self.old.state self.old.connection piece.now now result self.new.state self.new.connection }
+        ensures { TakesFrontOrDrains (serving O.OutboundTransform I.InboundTransform) self.old.state
+            self.old.connection piece.now now result self.new.state self.new.connection }
     {
         self.connection
             .feed_front(alloc, &mut self.state, piece, now)
     }
 
-    /// Whether nothing of a frame has come that isn't whole. Takes no memory.
+    /// Returns whether the input so far ends with a whole frame, or is empty.
     pub fn at_boundary(&self) -> bool
         ensures nothing { (result ≡ true) ↔ (self.now.connection.decoder ≡ nothing) }
         ensures held { (rest : List ℕ) × Holds self.now.connection.decoder rest }
@@ -110,8 +117,7 @@ impl<O: OutboundTransform + Drop, I: InboundTransform + Drop> ServerCore<O, I> {
         self.connection.at_boundary()
     }
 
-    /// Hands out the waiting job of least id, and none where none waits or the connection has failed. Takes no
-    /// memory.
+    /// Hands out the waiting job with the least id, or none if none waits or the connection has failed.
     pub fn take_job(&mut self) -> Option<Job>
         ensures handed { IfSome result (λ job. Hands self.old job self.new) }
         ensures none { IfNone result ((self.new ≡ self.old)
@@ -123,20 +129,22 @@ impl<O: OutboundTransform + Drop, I: InboundTransform + Drop> ServerCore<O, I> {
         self.state.hand_out()
     }
 
-    /// Answers a job that was taken, no stream's: its response is queued, and it is gone. One whose response is too long is
-    /// answered by a status that says so. A handler's error ends its job, too: under sync rules it fails the connection, and under
-    /// async rules it is answered by a status of its text. A refusal changes nothing, and its caller still has the
-    /// response.
+    /// Answers a unary job that was taken: its response is queued, and the job ends. If the response is too long, a status that states this
+    /// is queued instead. A handler's error ends the job, too. Under sync rules it fails the connection, and under async rules a status
+    /// with its text is queued. A refusal changes nothing, and the caller still has the response.
     pub fn answer(
         &mut self,
         alloc: Global,
         id: JobId,
         response: &Result<Response, Error>,
     ) -> Result<(), Error>
-        ensures answered { (r : AResponse) → response.now ≡ Ok r → OnOk result (Answers O.OutboundTransform self.old id r self.new) }
+        ensures answered { (r : AResponse) → response.now ≡ Ok r
+            → OnOk result (Answers O.OutboundTransform self.old id r self.new) }
         ensures handler_failed { (e : AnError) → response.now ≡ Err e
-            → OnOk result (AnswersError O.OutboundTransform self.old.state.rules self.old id e self.new) }
-        ensures refused { IfErr result (RefusesAnswer O.OutboundTransform self.old id response.now) }
+            → OnOk result
+            (AnswersError O.OutboundTransform self.old.state.rules self.old id e self.new) }
+        ensures refused { IfErr result
+            (RefusesAnswer O.OutboundTransform self.old id response.now) }
         ensures err { OnErr result (self.new ≡ self.old) }
     {
         let stream_id = self.active(alloc, id)?;
@@ -146,27 +154,28 @@ impl<O: OutboundTransform + Drop, I: InboundTransform + Drop> ServerCore<O, I> {
         }
     }
 
-    /// Queues a response under a stream's id, and ends no job: `finish` does that. It is a call of sync rules. A response
-    /// that is too long is replaced by a status that says so. A refusal changes nothing, and its caller still has the
-    /// response.
+    /// Queues a response under a stream id, and ends no job, which `finish` does. Only sync rules have this call. If the response is too
+    /// long, a status that states this is queued instead. A refusal changes nothing, and the caller still has the response.
     pub fn respond(
         &mut self,
         alloc: Global,
         stream_id: u32,
         response: &Response,
     ) -> Result<(), Error>
-        ensures queued { OnOk result (QueuesResponse O.OutboundTransform self.old stream_id response.now self.new) }
+        ensures queued { OnOk result
+            (QueuesResponse O.OutboundTransform self.old stream_id response.now self.new) }
         ensures rules { OnOk result (self.old.state.rules ≡ Rules.Sync) }
-        ensures refused { IfErr result (RefusesResponse O.OutboundTransform self.old stream_id response.now) }
+        ensures refused { IfErr result
+            (RefusesResponse O.OutboundTransform self.old stream_id response.now) }
         ensures err { OnErr result (self.new ≡ self.old) }
     {
         self.check_rules(alloc)?;
         self.queue(alloc, stream_id, response)
     }
 
-    /// Ends a job that was taken, no stream's, and queues nothing. It is a call of sync rules. It is refused only under others, for a
-    /// job that wasn't taken or has ended, or once the connection has failed; memory is taken for the text of a refusal
-    /// alone. A refusal changes nothing.
+    /// Ends a unary job that was taken, and queues nothing. Only sync rules have this call. The call is refused only under async rules, for
+    /// a job that wasn't taken or has ended, or after the connection has failed. Only the text of a refusal takes memory. A refusal changes
+    /// nothing.
     pub fn finish(&mut self, alloc: Global, id: JobId) -> Result<(), Error>
         ensures finished { OnOk result (Finishes self.old id self.new) }
         ensures rules { OnOk result (self.old.state.rules ≡ Rules.Sync) }
@@ -179,12 +188,14 @@ impl<O: OutboundTransform + Drop, I: InboundTransform + Drop> ServerCore<O, I> {
         Ok(())
     }
 
-    /// Says that this moment, in nanoseconds, has come. The unary jobs whose deadline it is or was expire, by rising id,
-    /// whether they were taken or not: each is answered by a status that says so, or not where that can't be sent, and is
-    /// gone. Where memory for an answer is refused the connection fails, and those before have expired. Under sync rules
-    /// jobs have no deadlines.
+    /// Reports that this moment, in nanoseconds, has come. The unary jobs with a deadline at or before it expire, by rising id, whether
+    /// they were taken or not. Each such job ends, and is answered by a status that states this. The status is left out if it is above the
+    /// limit, or if the outbound half refuses it. If the queue lacks room for an answer, that job and the later ones don't expire. If
+    /// memory for an answer is refused the connection fails, and only the jobs before have expired. Under sync rules jobs have no
+    /// deadlines.
     pub fn tick(&mut self, alloc: Global, now: u64)
-        ensures { Passes O.OutboundTransform self.old.state.rules self.old.connection.failure self.old now self.new }
+        ensures { Passes O.OutboundTransform self.old.state.rules
+            self.old.connection.failure self.old now self.new }
     {
         if !self.may_expire() {
             return;
@@ -195,14 +206,17 @@ impl<O: OutboundTransform + Drop, I: InboundTransform + Drop> ServerCore<O, I> {
         }
     }
 
-    /// The least moment at which `tick` would expire a job: none where it never would, as long as there is no room for the
-    /// answer. Takes no memory.
+    /// Returns the least moment at which `tick` would expire a job, or none if it never would. The answer is none, too, while the queue
+    /// lacks room for the answer to an expired job.
     pub fn next_deadline(&self) -> Option<u64>
-        ensures some { IfSome result (λ at. (self.now.connection.failure ≡ None) × (self.now.state.rules ≡ Rules.Async)
-            × (timeout_room O.OutboundTransform self.now.connection.outbox.half ≤ free self.now.connection.outbox.queue)
-            × IsDeadline self.now.state.jobs.list at) }
-        ensures none { IfNone result (self.now.connection.failure ≡ None → self.now.state.rules ≡ Rules.Async
-            → timeout_room O.OutboundTransform self.now.connection.outbox.half ≤ free self.now.connection.outbox.queue
+        ensures some { IfSome result
+            (λ at. (self.now.connection.failure ≡ None) × (self.now.state.rules ≡ Rules.Async)
+            × (timeout_room O.OutboundTransform self.now.connection.outbox.half
+            ≤ free self.now.connection.outbox.queue) × IsDeadline self.now.state.jobs.list at) }
+        ensures none { IfNone result (self.now.connection.failure ≡ None
+            → self.now.state.rules ≡ Rules.Async
+            → timeout_room O.OutboundTransform self.now.connection.outbox.half
+            ≤ free self.now.connection.outbox.queue
             → (now : ℕ) → now < 2 ^ 64 → due_jobs now self.now.state.jobs.list ≡ []) }
     {
         if !self.may_expire() || !has_room(&self.connection.outbox) {
@@ -211,27 +225,29 @@ impl<O: OutboundTransform + Drop, I: InboundTransform + Drop> ServerCore<O, I> {
         self.state.next_deadline()
     }
 
-    /// The first of the jobs that were taken and expired, and weren't told of yet: its handler may be dropped. Takes no
-    /// memory. The id of each such job is kept until it is told here, or until a job is made where none was left. So a
-    /// caller asks after each tick; where it never asks, while there is always a job, ever more of them are kept.
+    /// Takes the first of the jobs that were taken and expired, and weren't reported by this call yet. The job's handler may be dropped.
+    /// The id of each such job is kept until this call returns it, or until a job is made while there is no other. So a caller asks after
+    /// each tick. If it never asks while there is always a job, ever more ids are kept.
     pub fn next_expired(&mut self) -> Option<JobId>
         ensures first { self.old.state.expired ≡ option_to_list result ++ self.new.state.expired }
         ensures none { IfNone result (self.old.state.expired ≡ []) }
-        ensures same { self.new ≡ record self.old { state = record self.old.state { expired = self.new.state.expired } } }
+        ensures same { self.new ≡
+            record self.old { state = record self.old.state { expired = self.new.state.expired } } }
     {
         self.state.next_expired()
     }
 
-    /// The stream's id of the job of this number, if it was taken and hasn't ended. Takes no memory.
+    /// Returns the stream id of the job of this id, if the job was taken and hasn't ended.
     pub fn stream_of(&self, id: JobId) -> Option<u32>
-        ensures some { IfSome result (λ k. (job : AJob) × IsTaken self.now.state.jobs.list id job × (k ≡ job.header.stream_id)) }
+        ensures some { IfSome result (λ k. (job : AJob) × IsTaken self.now.state.jobs.list id job
+            × (k ≡ job.header.stream_id)) }
         ensures none { IfNone result (IsUnknown self.now.state.jobs.list id) }
     {
         let (stream_id, _) = self.state.jobs().taken_at(id)?;
         Some(stream_id)
     }
 
-    /// How many jobs wait to be handed out. Takes no memory.
+    /// Returns how many jobs wait to be handed out.
     pub fn jobs_waiting(&self) -> u64
         ensures count { result ≡ length (filter waits self.now.state.jobs.list) }
         ensures rise { Rising 0 self.now.state.jobs.list self.now.state.jobs.last }
@@ -239,22 +255,22 @@ impl<O: OutboundTransform + Drop, I: InboundTransform + Drop> ServerCore<O, I> {
         self.state.jobs().waiting()
     }
 
-    /// How many jobs were taken and not answered yet. Takes no memory.
+    /// Returns how many jobs were taken and not answered yet.
     pub fn jobs_taken(&self) -> u64
-        ensures { result ≡ length self.now.state.jobs.list - length (filter waits self.now.state.jobs.list) }
+        ensures { result
+            ≡ length self.now.state.jobs.list - length (filter waits self.now.state.jobs.list) }
     {
         self.state.jobs().taken()
     }
 
-    /// From now on nothing that comes in is taken: `feed` and `feed_front` answer 0, or the failure. Jobs are given and
-    /// answered as before. Takes no memory.
+    /// Stops taking input: from now on `feed` and `feed_front` return 0, or the failure. Jobs are handed out and answered as before.
     pub fn drain(&mut self)
         ensures { self.new ≡ drained self.old }
     {
         self.state.drain();
     }
 
-    /// The input ended: the connection fails, if it hasn't. Takes no memory.
+    /// Reports that the input ended. The connection fails, if it hasn't failed.
     pub fn end_of_input(&mut self)
         ensures ends { Ends self.old.connection self.new.connection }
         ensures same { self.new ≡ record self.old { connection = self.new.connection } }
@@ -262,21 +278,31 @@ impl<O: OutboundTransform + Drop, I: InboundTransform + Drop> ServerCore<O, I> {
         self.connection.end_of_input();
     }
 
-    /// Fails the connection, if it hasn't failed. Takes no memory.
+    /// Fails the connection with this error, if it hasn't failed.
     pub fn fail(&mut self, error: Error)
-        ensures { self.new ≡ record self.old { connection = failing self.old.connection (Failure.Told error) } }
+        ensures { self.new
+            ≡ record self.old { connection = failing self.old.connection (Failure.Told error) } }
     {
         self.connection.fail(Failure::Told(error));
     }
 
-    /// Whether the connection has failed. Takes no memory.
+    /// Fails the connection, if it hasn't failed, because its reader or writer broke with an error of this kind. The failure is reported as
+    /// `Socket` with the text of the kind, which is made when it is reported.
+    pub fn broke(&mut self, kind: ErrorKind)
+        ensures { self.new
+            ≡ record self.old { connection = failing self.old.connection (Failure.Broke kind) } }
+    {
+        self.connection.fail(Failure::Broke(kind));
+    }
+
+    /// Returns whether the connection has failed.
     pub fn has_failed(&self) -> bool
         ensures { result ≡ is_some self.now.connection.failure }
     {
         self.connection.has_failed()
     }
 
-    /// The failure, or `NoMemory` where memory for its text was refused.
+    /// Returns the error of the failure, if the connection has failed, or `NoMemory` if memory for its text was refused.
     pub fn failure(&self, alloc: Global) -> Option<Error>
         ensures none { IfNone result (self.now.connection.failure ≡ None) }
         ensures told { IfSome result (IsFailed self.now.connection.failure) }
@@ -284,16 +310,17 @@ impl<O: OutboundTransform + Drop, I: InboundTransform + Drop> ServerCore<O, I> {
         self.connection.failure(alloc)
     }
 
-    /// Copies a front of what is left of the first unfinished frame, as much as fits, and says how many bytes: none only
-    /// where none fit, nothing is left to be written, or the connection has failed. Takes no memory.
+    /// Copies the first bytes of the rest of the first unfinished frame, as many as fit, and returns how many. Returns 0 only if none fit,
+    /// nothing is left to be written, or the connection has failed.
     pub fn lend(&mut self, buffer: &mut [u8]) -> usize
         ensures lends { Lends self.old.connection buffer.old result buffer.new }
-        ensures lent { self.new ≡ record self.old { connection = lending self.old.connection result } }
+        ensures lent { self.new
+            ≡ record self.old { connection = lending self.old.connection result } }
     {
         self.connection.lend(buffer)
     }
 
-    /// Reports this many of the lent bytes as written. Takes no memory.
+    /// Reports this many of the lent bytes as written.
     pub fn wrote(&mut self, n: usize)
         requires { n ≤ self.old.connection.outbox.queue.lent }
         ensures { self.new ≡ record self.old { connection = reporting self.old.connection n } }
@@ -301,39 +328,42 @@ impl<O: OutboundTransform + Drop, I: InboundTransform + Drop> ServerCore<O, I> {
         self.connection.wrote(n)
     }
 
-    /// How many bytes a `lend` gives where all fit. Takes no memory.
+    /// Returns how many bytes a `lend` copies if all fit.
     pub fn lendable(&self) -> usize
         ensures { result ≡ lendable self.now.connection }
     {
         self.connection.lendable()
     }
 
-    /// Whether anything is left to be written, which it won't be after a failure. Takes no memory.
+    /// Returns whether anything is left to be written. After a failure the rest is never lent.
     pub fn has_unsent(&self) -> bool
         ensures { (result ≡ true) ↔ (unsent self.now.connection.outbox.queue ≢ []) }
     {
         self.connection.has_unsent()
     }
 
-    /// How many bytes the last `lend` since the last report gave.
+    /// Returns how many bytes the last `lend` since the last report gave.
     pub fn lent(&self) -> usize
         ensures { result ≡ self.now.connection.outbox.queue.lent }
     {
         self.connection.lent()
     }
 
-    /// Whether jobs may expire: the connection lives, and the rules have deadlines.
+    /// Returns whether jobs may expire: the connection hasn't failed, and the rules have deadlines.
     fn may_expire(&self) -> bool
-        ensures { (result ≡ true) ↔ ((self.now.connection.failure ≡ None) × (self.now.state.rules ≡ Rules.Async)) }
+        ensures { (result ≡ true)
+            ↔ ((self.now.connection.failure ≡ None) × (self.now.state.rules ≡ Rules.Async)) }
     {
         !self.connection.has_failed() && self.state.rules() == Rules::Async
     }
 
-    /// The stream's id of a job that may be answered or ended by one response, or why it may not.
+    /// Returns the stream id of a unary job that was taken, or the error why there is none.
     fn active(&self, alloc: Global, id: JobId) -> Result<u32, Error>
         ensures ok { IfOk result (λ k. (self.now.connection.failure ≡ None)
-            × ((job : AJob) × IsTaken self.now.state.jobs.list id job × (is_stream job.body ≡ false) × (k ≡ job.header.stream_id))) }
-        ensures err { IfErr result (λ told. IsFailed self.now.connection.failure told ⊎ HasNoJob self.now id told) }
+            × ((job : AJob) × IsTaken self.now.state.jobs.list id job × (is_stream job.body ≡ false)
+            × (k ≡ job.header.stream_id))) }
+        ensures err { IfErr result
+            (λ told. IsFailed self.now.connection.failure told ⊎ HasNoJob self.now id told) }
     {
         self.connection.check_alive(alloc)?;
         match self.state.unary_at(id) {
@@ -342,10 +372,12 @@ impl<O: OutboundTransform + Drop, I: InboundTransform + Drop> ServerCore<O, I> {
         }
     }
 
-    /// Sync rules have the call, and the connection lives; or why not.
+    /// Returns `Ok` if the rules are sync and the connection hasn't failed, or else the error.
     fn check_rules(&self, alloc: Global) -> Result<(), Error>
-        ensures ok { OnOk result ((self.now.connection.failure ≡ None) × (self.now.state.rules ≡ Rules.Sync)) }
-        ensures err { IfErr result (λ told. IsFailed self.now.connection.failure told ⊎ HasOtherRules self.now told) }
+        ensures ok { OnOk result
+            ((self.now.connection.failure ≡ None) × (self.now.state.rules ≡ Rules.Sync)) }
+        ensures err { IfErr result
+            (λ told. IsFailed self.now.connection.failure told ⊎ HasOtherRules self.now told) }
     {
         self.connection.check_alive(alloc)?;
         match self.state.rules() {
@@ -354,9 +386,10 @@ impl<O: OutboundTransform + Drop, I: InboundTransform + Drop> ServerCore<O, I> {
         }
     }
 
-    /// Queues a response under a stream's id. An `Err` changes nothing.
+    /// Queues a response under a stream id. An `Err` changes nothing.
     fn queue(&mut self, alloc: Global, stream_id: u32, response: &Response) -> Result<(), Error>
-        ensures queued { OnOk result (QueuesResponse O.OutboundTransform self.old stream_id response.now self.new) }
+        ensures queued { OnOk result
+            (QueuesResponse O.OutboundTransform self.old stream_id response.now self.new) }
         ensures refused { IfErr result (λ told. IsFailed self.old.connection.failure told
             ⊎ HasUnsentResponse O.OutboundTransform self.old stream_id response.now told) }
         ensures err { OnErr result (self.new ≡ self.old) }
@@ -378,8 +411,10 @@ impl<O: OutboundTransform + Drop, I: InboundTransform + Drop> ServerCore<O, I> {
         stream_id: u32,
         response: &Response,
     ) -> Result<(), Error>
-        requires { (job : AJob) × IsTaken self.old.state.jobs.list id job × (is_stream job.body ≡ false) × (stream_id ≡ job.header.stream_id) }
-        ensures answered { OnOk result (Answers O.OutboundTransform self.old id response.now self.new) }
+        requires { (job : AJob) × IsTaken self.old.state.jobs.list id job
+            × (is_stream job.body ≡ false) × (stream_id ≡ job.header.stream_id) }
+        ensures answered { OnOk result
+            (Answers O.OutboundTransform self.old id response.now self.new) }
         ensures refused { IfErr result (λ told. IsFailed self.old.connection.failure told
             ⊎ HasUnsent O.OutboundTransform self.old id (Ok response.now) told) }
         ensures err { OnErr result (self.new ≡ self.old) }
@@ -389,7 +424,7 @@ impl<O: OutboundTransform + Drop, I: InboundTransform + Drop> ServerCore<O, I> {
         Ok(())
     }
 
-    /// A handler gave this error for a job that was taken. An `Err` changes nothing.
+    /// Ends a job that was taken with its handler's error. An `Err` changes nothing.
     fn answer_error(
         &mut self,
         alloc: Global,
@@ -397,9 +432,14 @@ impl<O: OutboundTransform + Drop, I: InboundTransform + Drop> ServerCore<O, I> {
         stream_id: u32,
         error: &Error,
     ) -> Result<(), Error>
+        // The connection hasn't failed. The job is unary, was taken and has this stream id.
         requires alive { self.old.connection.failure ≡ None }
-        requires taken { (job : AJob) × IsTaken self.old.state.jobs.list id job × (is_stream job.body ≡ false) × (stream_id ≡ job.header.stream_id) }
-        ensures answered { OnOk result (AnswersError O.OutboundTransform self.old.state.rules self.old id error.now self.new) }
+        requires taken { (job : AJob) × IsTaken self.old.state.jobs.list id job
+            × (is_stream job.body ≡ false) × (stream_id ≡ job.header.stream_id) }
+        // At an `Ok` the handler's error was answered.
+        ensures answered { OnOk result
+            (AnswersError O.OutboundTransform self.old.state.rules self.old id error.now self.new) }
+        // An error reports that the connection has failed or that the answer can't be sent, and changes nothing.
         ensures refused { IfErr result (λ told. IsFailed self.old.connection.failure told
             ⊎ HasUnsent O.OutboundTransform self.old id (Err error.now) told) }
         ensures err { OnErr result (self.new ≡ self.old) }

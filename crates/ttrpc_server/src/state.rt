@@ -1,4 +1,5 @@
-//! The state of a server core, without its connection, and how a whole frame acts on it.
+//! The state of a server core, without its connection, and its reactions to whole frames. A function without an `alloc` argument takes no
+//! memory, except `bring`, `make` and `make_job`.
 ghost use Rattle.std.specs.Prelude.{◌≡◌, ◌≤◌, ◌+◌, ◌⊎◌, [], true, false, IfErr, IfOk, IfSome, IfNone, OnErr, OnOk, None, Some, ◌<◌, ◌^◌, ◌++◌, ℕ, option_to_list};
 ghost use Rattle.ttrpc_proto.specs.Framing.Queue.{free};
 ghost use Rattle.ttrpc_proto.specs.Messages.{empty_request, request_step};
@@ -44,17 +45,17 @@ use ttrpc_secure::OutboundTransform;
 use ttrpc_wire::codec::in_place::decode_in_place;
 use ttrpc_wire::{Blob, CodecError};
 
-/// The jobs of a server, and what decides which frames become jobs.
+/// The jobs of a server, and the parts that decide which frames become jobs.
 #[derive(Drop)]
 pub struct ServerState {
     rules: Rules,
     registry: Registry,
     jobs: Jobs,
-    // Under sync rules it has none.
+    // Under sync rules the index is empty.
     index: Index,
-    // The streams' jobs for which something came since it was last asked.
+    // The streams' jobs for which something came, and that weren't reported since.
     heard: BTreeSet<JobId>,
-    // Under async rules it has room for each job.
+    // Under async rules this has room for each job.
     expiry: Expiry,
     draining: bool,
 }
@@ -65,13 +66,15 @@ impl Model for ServerState {
 
     ghost Value = { Server };
 
-    ghost view = { λ a. record { rules = a.rules; services = a.registry; jobs = a.jobs; heard = a.heard.keys; expired = a.expiry.expired; draining = a.draining } };
+    ghost view = { λ a.
+        record { rules = a.rules; services = a.registry; jobs = a.jobs; heard = a.heard.keys; expired = a.expiry.expired; draining = a.draining } };
 
-    ghost invariant = { λ a. IsKept a.rules a.jobs.list a.index × HasRoom a.rules a.jobs.list a.expiry };
+    ghost invariant = { λ a. IsKept a.rules a.jobs.list a.index
+        × HasRoom a.rules a.jobs.list a.expiry };
 }
 
 impl ServerState {
-    /// A lemma, which does nothing when it runs: what holds of every server's jobs.
+    /// States the properties of every server's jobs. A lemma, which does nothing when it runs.
     pub(crate) fn lemma_is_server(&self)
         ensures single { self.now.rules ≡ Rules.Async → AreSingle self.now.jobs.list }
         ensures unary { self.now.rules ≡ Rules.Sync → AreUnary self.now.jobs.list }
@@ -80,7 +83,7 @@ impl ServerState {
         self.jobs.lemma_rise();
     }
 
-    /// No jobs. Takes no memory.
+    /// Returns a state without jobs. Takes no memory.
     pub(crate) fn new(alloc: Global, rules: Rules, registry: Registry) -> Self
         ensures { result ≡ new_server rules registry }
     {
@@ -95,28 +98,28 @@ impl ServerState {
         }
     }
 
-    /// The rules that it keeps.
+    /// Returns the rules that the server follows.
     pub(crate) fn rules(&self) -> Rules
         ensures { result ≡ self.now.rules }
     {
         self.rules
     }
 
-    /// From now on it takes no more of what comes in. Takes no memory.
+    /// Stops taking input.
     pub(crate) fn drain(&mut self)
         ensures { self.new ≡ record self.old { draining = true } }
     {
         self.draining = true;
     }
 
-    /// The jobs that weren't answered.
+    /// Returns the jobs that weren't answered.
     pub(crate) fn jobs(&self) -> &Jobs
         ensures { result.now ≡ self.now.jobs }
     {
         &self.jobs
     }
 
-    /// Hands out the first job that waits. Takes no memory.
+    /// Hands out the first job that waits, if there is one.
     pub(crate) fn hand_out(&mut self) -> Option<Job>
         ensures given { IfSome result (λ job. HandsOne self.old.jobs.list job self.new.jobs.list) }
         ensures none { IfNone result ((self.new ≡ self.old) × NoneWaits self.old.jobs.list) }
@@ -125,10 +128,11 @@ impl ServerState {
         self.jobs.hand_out()
     }
 
-    /// Forgets the job of this id, which was taken. Takes no memory.
+    /// Forgets the job of this id, which was taken.
     pub(crate) fn end(&mut self, id: JobId)
         requires { (job : AJob) × IsTaken self.old.jobs.list id job }
-        ensures ended { (job : AJob) → IsTaken self.old.jobs.list id job → EndsOne self.old.jobs.list id job self.new.jobs.list }
+        ensures ended { (job : AJob) → IsTaken self.old.jobs.list id job
+            → EndsOne self.old.jobs.list id job self.new.jobs.list }
         ensures same { self.new ≡ with_list self.old self.new.jobs.list }
     {
         let Some((stream_id, deadline)) = self.jobs.place_of(id) else {
@@ -138,9 +142,10 @@ impl ServerState {
         self.index.take_away(stream_id, id, deadline);
     }
 
-    /// The stream's id of a job that was taken and is answered by one response, if this id is one's. Takes no memory.
+    /// Returns the stream id of the unary job of this id, if there is one and it was taken.
     pub(crate) fn unary_at(&self, id: JobId) -> Option<u32>
-        ensures some { IfSome result (λ k. (job : AJob) × IsTaken self.now.jobs.list id job × (is_stream job.body ≡ false) × (k ≡ job.header.stream_id)) }
+        ensures some { IfSome result (λ k. (job : AJob) × IsTaken self.now.jobs.list id job
+            × (is_stream job.body ≡ false) × (k ≡ job.header.stream_id)) }
         ensures none { IfNone result (IsNoUnary self.now.rules self.now.jobs.list id) }
     {
         match self.jobs.taken_at(id) {
@@ -149,9 +154,10 @@ impl ServerState {
         }
     }
 
-    /// What an id has for a frame under it, which async rules ask. Takes no memory.
+    /// Returns the state of a stream id for a frame under it, as async rules need it.
     fn inlet(&self, stream_id: u32) -> Inlet
-        ensures { self.now.rules ≡ Rules.Async → result ≡ inlet_of (jobs_at self.now.jobs.list stream_id) }
+        ensures { self.now.rules ≡ Rules.Async
+            → result ≡ inlet_of (jobs_at self.now.jobs.list stream_id) }
     {
         let Some(id) = self.index.job_of(stream_id) else {
             return Inlet::Absent;
@@ -160,7 +166,7 @@ impl ServerState {
         self.jobs.inlet(id).unwrap_or(Inlet::Absent)
     }
 
-    /// Reads a request that async rules take as the newest, and lets it act. An `Err` changes nothing.
+    /// Reads a payload as a request, which is the newest one under async rules, and acts on it. An `Err` changes nothing.
     fn see<O: OutboundTransform + Drop>(
         &mut self,
         alloc: Global,
@@ -169,15 +175,17 @@ impl ServerState {
         plain: Blob,
         now: u64,
     ) -> Result<(), Failure>
-        requires unused { self.old.rules ≡ Rules.Async → jobs_at self.old.jobs.list header.stream_id ≡ [] }
+        requires unused { self.old.rules ≡ Rules.Async
+            → jobs_at self.old.jobs.list header.stream_id ≡ [] }
         requires room { MESSAGE_HEADER_LENGTH + MESSAGE_LENGTH_MAX ≤ free outbox.old.queue }
         ensures does { OnOk result (SendsSome O.OutboundTransform outbox.old
-            (λ sent. Does O.OutboundTransform (request_row self.old.rules self.old.services (read_from request_step empty_request plain))
-            (with_newest self.old (newest_after self.old.rules header.stream_id (ACase.Asks plain) self.old.jobs.newest))
-            outbox.old.half header now sent self.new)
-            outbox.new) }
+            (λ sent. Does O.OutboundTransform (request_row self.old.rules self.old.services
+            (read_from request_step empty_request plain)) (with_newest self.old
+            (newest_after self.old.rules header.stream_id (ACase.Asks plain) self.old.jobs.newest))
+            outbox.old.half header now sent self.new) outbox.new) }
         ensures err { IfErr result (λ failure. (self.new ≡ self.old) × (outbox.new ≡ outbox.old)
-            × FailsOn (request_row self.old.rules self.old.services (read_from request_step empty_request plain)) self.old failure) }
+            × FailsOn (request_row self.old.rules self.old.services
+            (read_from request_step empty_request plain)) self.old failure) }
     {
         let newest = self.jobs.newest();
         if let Rules::Async = self.rules {
@@ -190,7 +198,7 @@ impl ServerState {
         asked
     }
 
-    /// A payload is read as a request, which acts. An `Err` changes nothing.
+    /// Reads a payload as a request, and acts on it. An `Err` changes nothing.
     fn ask<O: OutboundTransform + Drop>(
         &mut self,
         alloc: Global,
@@ -199,14 +207,16 @@ impl ServerState {
         plain: Blob,
         now: u64,
     ) -> Result<(), Failure>
-        requires unused { self.old.rules ≡ Rules.Async → jobs_at self.old.jobs.list header.stream_id ≡ [] }
+        requires unused { self.old.rules ≡ Rules.Async
+            → jobs_at self.old.jobs.list header.stream_id ≡ [] }
         requires room { MESSAGE_HEADER_LENGTH + MESSAGE_LENGTH_MAX ≤ free outbox.old.queue }
         ensures does { OnOk result (SendsSome O.OutboundTransform outbox.old
-            (λ sent. Does O.OutboundTransform (request_row self.old.rules self.old.services (read_from request_step empty_request plain))
-            self.old outbox.old.half header now sent self.new)
-            outbox.new) }
+            (λ sent. Does O.OutboundTransform (request_row self.old.rules self.old.services
+            (read_from request_step empty_request plain))
+            self.old outbox.old.half header now sent self.new) outbox.new) }
         ensures err { IfErr result (λ failure. (self.new ≡ self.old) × (outbox.new ≡ outbox.old)
-            × FailsOn (request_row self.old.rules self.old.services (read_from request_step empty_request plain)) self.old failure) }
+            × FailsOn (request_row self.old.rules self.old.services
+            (read_from request_step empty_request plain)) self.old failure) }
     {
         let rules = self.rules;
         match decode_in_place(alloc, plain.into_vec()) {
@@ -219,7 +229,7 @@ impl ServerState {
         }
     }
 
-    /// A request that was read becomes a job, if there is a method of its name. An `Err` changes nothing.
+    /// Makes a job of a request, if there is a method or a stream of its name, or answers that there is none. An `Err` changes nothing.
     fn begin<O: OutboundTransform + Drop>(
         &mut self,
         alloc: Global,
@@ -228,14 +238,15 @@ impl ServerState {
         request: Request,
         now: u64,
     ) -> Result<(), Failure>
-        requires unused { self.old.rules ≡ Rules.Async → jobs_at self.old.jobs.list header.stream_id ≡ [] }
+        requires unused { self.old.rules ≡ Rules.Async
+            → jobs_at self.old.jobs.list header.stream_id ≡ [] }
         requires room { MESSAGE_HEADER_LENGTH + MESSAGE_LENGTH_MAX ≤ free outbox.old.queue }
-        ensures does { OnOk result (SendsSome O.OutboundTransform outbox.old
-            (λ sent. Does O.OutboundTransform (request_row self.old.rules self.old.services (Some request))
-            self.old outbox.old.half header now sent self.new)
-            outbox.new) }
+        ensures does { OnOk result (SendsSome O.OutboundTransform outbox.old (λ sent.
+            Does O.OutboundTransform (request_row self.old.rules self.old.services (Some request))
+            self.old outbox.old.half header now sent self.new) outbox.new) }
         ensures err { IfErr result (λ failure. (self.new ≡ self.old) × (outbox.new ≡ outbox.old)
-            × FailsOn (request_row self.old.rules self.old.services (Some request)) self.old failure) }
+            × FailsOn (request_row self.old.rules self.old.services (Some request))
+            self.old failure) }
     {
         match asked_of(self.rules, &self.registry, &request) {
             Asked::Call => {
@@ -250,18 +261,20 @@ impl ServerState {
         }
     }
 
-    /// Makes a stream's job of a request, whose payload is the first thing that came for it. An `Err` changes nothing.
+    /// Makes a stream's job of a request. The request's payload is the first thing that came for the stream. An `Err` changes nothing.
     fn open(
         &mut self,
         alloc: Global,
         header: MessageHeader,
         request: Request,
     ) -> Result<(), Failure>
-        requires none { self.old.rules ≡ Rules.Async → jobs_at self.old.jobs.list header.stream_id ≡ [] }
+        requires none { self.old.rules ≡ Rules.Async
+            → jobs_at self.old.jobs.list header.stream_id ≡ [] }
         requires rules { self.old.rules ≡ Rules.Async }
         ensures ok { OnOk result (self.new ≡ with_made self.old header (without_payload request)
             (stream_body self.old.services.bare_openings header.flags request.payload)) }
-        ensures err { IfErr result (λ failure. (self.new ≡ self.old) × FailsToMake self.old.jobs failure) }
+        ensures err { IfErr result
+            (λ failure. (self.new ≡ self.old) × FailsToMake self.old.jobs failure) }
     {
         let Request {
             service,
@@ -282,12 +295,14 @@ impl ServerState {
         self.make(header, request, Body::Stream(mailbox))
     }
 
-    /// Puts data into the mailbox of their id's stream. An `Err` changes nothing.
+    /// Puts data into the mailbox of the stream of their id. An `Err` changes nothing.
     fn put(&mut self, alloc: Global, header: &MessageHeader, plain: Blob) -> Result<(), Failure>
         requires rules { self.old.rules ≡ Rules.Async }
-        requires takes { inlet_of (jobs_at self.old.jobs.list header.now.stream_id) ≡ AnInlet.Taking }
+        requires takes { inlet_of
+            (jobs_at self.old.jobs.list header.now.stream_id) ≡ AnInlet.Taking }
         ensures ok { OnOk result (self.new ≡ put_in self.old header.now plain) }
-        ensures err { IfErr result (λ failure. (self.new ≡ self.old) × (failure ≡ AFailure.NoMemory)) }
+        ensures err { IfErr result
+            (λ failure. (self.new ≡ self.old) × (failure ≡ AFailure.NoMemory)) }
     {
         let Some(id) = self.index.job_of(header.stream_id) else {
             unreachable!();
@@ -300,8 +315,7 @@ impl ServerState {
         }
     }
 
-    /// Puts a thing into the mailbox of a stream's job, and lists the job as one for which something came. An `Err` changes
-    /// nothing.
+    /// Puts a thing into the mailbox of a stream's job, and lists the job as one for which something came. An `Err` changes nothing.
     fn bring(&mut self, id: JobId, thing: Thing, ends: bool) -> Result<(), AllocError>
         ensures ok { OnOk result (self.new ≡ record self.old {
           jobs = record self.old.jobs { list = on_mail id (λ m. with_thing m thing ends) self.old.jobs.list };
@@ -317,13 +331,15 @@ impl ServerState {
         put
     }
 
-    /// Makes a job of a request. Where none was left, those that expired are no longer told of. An `Err` changes nothing: no
-    /// id is left, or no memory.
+    /// Makes a job of a request. If there was no other job, the expired jobs that weren't reported are forgotten. An `Err` changes nothing:
+    /// no id is left, or memory was refused.
     fn make(&mut self, header: MessageHeader, request: Request, body: Body) -> Result<(), Failure>
-        requires none { self.old.rules ≡ Rules.Async → jobs_at self.old.jobs.list header.stream_id ≡ [] }
+        requires none { self.old.rules ≡ Rules.Async
+            → jobs_at self.old.jobs.list header.stream_id ≡ [] }
         requires plain { self.old.rules ≡ Rules.Sync → body ≡ ABody.Unary None }
         ensures ok { OnOk result (self.new ≡ with_made self.old header request body) }
-        ensures err { IfErr result (λ failure. (self.new ≡ self.old) × FailsToMake self.old.jobs failure) }
+        ensures err { IfErr result
+            (λ failure. (self.new ≡ self.old) × FailsToMake self.old.jobs failure) }
     {
         let was_idle = self.jobs.len() == 0;
         self.make_job(header, request, body)?;
@@ -340,10 +356,13 @@ impl ServerState {
         request: Request,
         body: Body,
     ) -> Result<(), Failure>
-        requires none { self.old.rules ≡ Rules.Async → jobs_at self.old.jobs.list header.stream_id ≡ [] }
+        requires none { self.old.rules ≡ Rules.Async
+            → jobs_at self.old.jobs.list header.stream_id ≡ [] }
         requires plain { self.old.rules ≡ Rules.Sync → body ≡ ABody.Unary None }
-        ensures ok { OnOk result (self.new ≡ record self.old { jobs = with_job self.old.jobs header request body }) }
-        ensures err { IfErr result (λ failure. (self.new ≡ self.old) × FailsToMake self.old.jobs failure) }
+        ensures ok { OnOk result
+            (self.new ≡ record self.old { jobs = with_job self.old.jobs header request body }) }
+        ensures err { IfErr result
+            (λ failure. (self.new ≡ self.old) × FailsToMake self.old.jobs failure) }
     {
         match self.rules {
             Rules::Sync => self.jobs.make(header, request, body),
@@ -368,14 +387,16 @@ impl ServerState {
     }
 }
 
-/// Streams.
+/// The calls on streams.
 impl ServerState {
-    /// The stream's id of a job on whose stream something may be sent, or why nothing may.
+    /// Returns the stream id of the job of this id, if items may be sent on its stream, or the error why not.
     pub(crate) fn sendable(&self, alloc: Global, id: JobId) -> Result<u32, Error>
         ensures ok { IfOk result (λ k. (self.now.rules ≡ Rules.Async)
-            × ((job : AJob) × (job_at self.now.jobs.list id ≡ Some job) × (is_stream job.body ≡ true) × (k ≡ job.header.stream_id))) }
+            × ((job : AJob) × (job_at self.now.jobs.list id ≡ Some job)
+            × (is_stream job.body ≡ true) × (k ≡ job.header.stream_id))) }
         ensures err { IfErr result (λ told. HasNoStreams self.now told
-            ⊎ ((self.now.rules ≡ Rules.Async) × ((error : AnError) × (unsendable self.now.jobs id ≡ Some error) × IsTold error told))) }
+            ⊎ ((self.now.rules ≡ Rules.Async) × ((error : AnError)
+            × (unsendable self.now.jobs id ≡ Some error) × IsTold error told))) }
     {
         self.check_streams(alloc)?;
         match self.jobs.stream_at(id) {
@@ -385,7 +406,7 @@ impl ServerState {
         }
     }
 
-    /// Gives the next item of the stream of a job, or why there is none.
+    /// Takes the next item of the stream of a job, or returns why there is none.
     pub(crate) fn recv(
         &mut self,
         alloc: Global,
@@ -404,10 +425,11 @@ impl ServerState {
         }
     }
 
-    /// Why nothing is received from a job that has no stream.
+    /// Returns the error why nothing is received for a job without a stream.
     fn astray(&self, alloc: Global, id: JobId) -> Error
         requires { mail_at self.now.jobs.list id ≡ None }
-        ensures { (error : AnError) × (unreceivable self.now.jobs id ≡ Some error) × IsTold error result }
+        ensures { (error : AnError)
+            × (unreceivable self.now.jobs id ≡ Some error) × IsTold error result }
     {
         match self.jobs.stream_at(id) {
             None if self.jobs.was_made(id) => past(alloc),
@@ -415,7 +437,7 @@ impl ServerState {
         }
     }
 
-    /// Nobody receives any more what comes for the stream of a job. Takes no memory.
+    /// Drops the receiver of the stream of a job.
     pub(crate) fn drop_receiver(&mut self, id: JobId)
         ensures { self.new ≡ record self.old {
           jobs = record self.old.jobs { list = on_mail id without_receiver self.old.jobs.list };
@@ -426,7 +448,7 @@ impl ServerState {
         self.heard.remove(&id);
     }
 
-    /// The first of the streams' jobs for which something came, and which weren't told of yet. Takes no memory.
+    /// Takes the first of the streams' jobs for which something came, and that weren't reported since.
     pub(crate) fn next_heard(&mut self) -> Option<JobId>
         ensures first { self.old.heard ≡ option_to_list result ++ self.new.heard }
         ensures none { IfNone result (self.old.heard ≡ []) }
@@ -435,17 +457,19 @@ impl ServerState {
         self.heard.pop_first()
     }
 
-    /// Forgets the stream's job of this id, which was taken. Takes no memory.
+    /// Forgets the stream's job of this id, which was taken.
     pub(crate) fn end_stream(&mut self, id: JobId)
         requires { (job : AJob) × IsTaken self.old.jobs.list id job }
-        ensures ended { (job : AJob) → IsTaken self.old.jobs.list id job → EndsOne self.old.jobs.list id job self.new.jobs.list }
-        ensures same { self.new ≡ record (with_list self.old self.new.jobs.list) { heard = remove_key (is_at (nat_cmp id)) self.old.heard } }
+        ensures ended { (job : AJob) → IsTaken self.old.jobs.list id job
+            → EndsOne self.old.jobs.list id job self.new.jobs.list }
+        ensures same { self.new ≡ record (with_list self.old
+            self.new.jobs.list) { heard = remove_key (is_at (nat_cmp id)) self.old.heard } }
     {
         self.end(id);
         self.heard.remove(&id);
     }
 
-    /// The rules have streams, or why they haven't.
+    /// Returns `Ok` if the rules have streams, or else the error.
     pub(crate) fn check_streams(&self, alloc: Global) -> Result<(), Error>
         ensures ok { OnOk result (self.now.rules ≡ Rules.Async) }
         ensures err { IfErr result (HasNoStreams self.now) }
@@ -457,10 +481,10 @@ impl ServerState {
     }
 }
 
-/// Jobs that expire.
+/// The calls for jobs that expire.
 impl ServerState {
-    /// The jobs that are due at this moment expire, by rising id. An `Err` says why no more of them do: there is no room for an
-    /// answer, or memory for one was refused. Those before have expired.
+    /// Expires the jobs that are due at this moment, by rising id. An `Err` is the reason why no more of them expire: there is no room for
+    /// an answer, or memory for one was refused. The jobs before have expired.
     pub(crate) fn expire<O: OutboundTransform + Drop>(
         &mut self,
         alloc: Global,
@@ -468,8 +492,10 @@ impl ServerState {
         now: u64,
     ) -> Result<(), Stop>
         requires { self.old.rules ≡ Rules.Async }
-        ensures ok { OnOk result (ExpireAll O.OutboundTransform self.old outbox.old (due_jobs now self.old.jobs.list) self.new outbox.new) }
-        ensures err { IfErr result (λ stop. StopsExpiring O.OutboundTransform self.old outbox.old now stop self.new outbox.new) }
+        ensures ok { OnOk result (ExpireAll O.OutboundTransform self.old outbox.old
+            (due_jobs now self.old.jobs.list) self.new outbox.new) }
+        ensures err { IfErr result (λ stop. StopsExpiring O.OutboundTransform self.old outbox.old
+            now stop self.new outbox.new) }
     {
         self.jobs.lemma_rise();
         let deadlines = self.index.deadlines();
@@ -489,16 +515,17 @@ impl ServerState {
         Ok(())
     }
 
-    /// The least moment at which a job expires, if there is one. Takes no memory.
+    /// Returns the least moment at which a job expires, if there is one.
     pub(crate) fn next_deadline(&self) -> Option<u64>
         ensures some { IfSome result (IsDeadline self.now.jobs.list) }
-        ensures none { IfNone result ((now : ℕ) → now < 2 ^ 64 → due_jobs now self.now.jobs.list ≡ []) }
+        ensures none { IfNone result
+            ((now : ℕ) → now < 2 ^ 64 → due_jobs now self.now.jobs.list ≡ []) }
     {
         let (deadline, _) = self.index.deadlines().first()?;
         u64::try_from(deadline).ok()
     }
 
-    /// The first of the jobs that were taken and expired, and weren't told of yet. Takes no memory.
+    /// Takes the first of the jobs that were taken and expired, and weren't reported yet.
     pub(crate) fn next_expired(&mut self) -> Option<JobId>
         ensures first { self.old.expired ≡ option_to_list result ++ self.new.expired }
         ensures none { IfNone result (self.old.expired ≡ []) }
@@ -520,7 +547,7 @@ impl<O: OutboundTransform + Drop> Reacts<O> for ServerState {
 
     ghost takes = { takes_on };
 
-    // A frame's own answer is at most as long as a message may be.
+    // The answer to a frame is at most as long as a message may be.
     const ROOM: usize = MESSAGE_HEADER_LENGTH + MESSAGE_LENGTH_MAX;
 
     ghost ROOM = { MESSAGE_HEADER_LENGTH + MESSAGE_LENGTH_MAX };
@@ -549,7 +576,7 @@ impl<O: OutboundTransform + Drop> Reacts<O> for ServerState {
     }
 }
 
-/// What a job of one response is that is made of this request at this moment.
+/// Returns the body of a unary job that is made of this request at this moment.
 fn unary_body(rules: Rules, now: u64, request: &Request) -> Body
     ensures { result ≡ unary_body rules now request.now }
 {

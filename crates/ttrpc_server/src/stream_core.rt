@@ -1,4 +1,4 @@
-//! A server's core, to what stands on the streams of either core.
+//! A server's core as a `StreamCore`.
 use crate::job::JobId;
 use crate::server::ServerCore;
 use std::alloc::Global;
@@ -17,20 +17,23 @@ impl<O: OutboundTransform + Drop, I: InboundTransform + Drop> StreamCore for Ser
 
     type Id = JobId;
 
-    ghost sends = { λ old id item ticket new. SendsItem O.OutboundTransform old id item ticket new };
+    ghost sends = { λ old id item ticket new. SendsItem O.OutboundTransform
+        old id item ticket new };
 
     ghost refuses = { λ old id item told. RefusesItem O.OutboundTransform old id item told };
 
     // A server ends a stream with its handler's answer, by `end_stream`.
     ghost closes = { λ old id ticket new. ⊥ };
 
-    ghost refuses_close = { λ old id told. IsTold (Others (codes "a server closes a stream by ending it")) told };
+    ghost refuses_close = { λ old id told.
+        IsTold (Others (codes "a server closes a stream by ending it")) told };
 
     ghost unsends = { λ old id new. new ≡ old };
 
     ghost receives = { λ old id given new. ReceivesOne old id given new };
 
-    ghost tells_sent = { λ c ticket told. TellsSent (is_sent c.connection.outbox.queue ticket) c.connection.failure told };
+    ghost tells_sent = { λ c ticket told. TellsSent (is_sent c.connection.outbox.queue ticket)
+        c.connection.failure told };
 
     ghost unhears = { λ old id new. new ≡ unheard old id };
 

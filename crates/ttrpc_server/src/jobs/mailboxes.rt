@@ -1,4 +1,4 @@
-//! The mailboxes of streams' jobs.
+//! The mailboxes of streams' jobs. Of the functions here only `put` and `recv` take memory.
 ghost use Rattle.std.specs.Prelude.{◌≡◌, IfNone, IfSome, OnOk, OnErr};
 ghost use Rattle.std.specs.Option.{option_map};
 ghost use Rattle.ttrpc_connection.specs.Mail.{with_thing, without_receiver};
@@ -17,7 +17,7 @@ use ttrpc_proto::Error;
 use ttrpc_wire::Blob;
 
 impl Jobs {
-    /// What the job of this id is for a frame under its stream's id, if there is one. Takes no memory.
+    /// Returns how the job of this id takes a frame under its stream id, if there is such a job.
     pub(crate) fn inlet(&self, id: JobId) -> Option<Inlet>
         ensures { result ≡ option_map (λ j. inlet_in j.body) (job_at self.now.list id) }
     {
@@ -27,9 +27,10 @@ impl Jobs {
         }
     }
 
-    /// The stream's id of the job of this id, and whether it is a stream's, if there is one. Takes no memory.
+    /// Returns the stream id of the job of this id, and whether the job is a stream's, if there is such a job.
     pub(crate) fn stream_at(&self, id: JobId) -> Option<(u32, bool)>
-        ensures { result ≡ option_map (λ j. (j.header.stream_id, is_stream j.body)) (job_at self.now.list id) }
+        ensures { result
+            ≡ option_map (λ j. (j.header.stream_id, is_stream j.body)) (job_at self.now.list id) }
     {
         match self.jobs.get(id) {
             Some(job) => Some((job.header.stream_id, job.body.is_stream())),
@@ -37,9 +38,10 @@ impl Jobs {
         }
     }
 
-    /// The stream's id of the job of this id, and whether it is a stream's, if it was taken. Takes no memory.
+    /// Returns the stream id of the job of this id, and whether the job is a stream's, if it was taken.
     pub(crate) fn taken_at(&self, id: JobId) -> Option<(u32, bool)>
-        ensures some { IfSome result (λ p. (job : AJob) × IsTaken self.now.list id job × (p ≡ (job.header.stream_id, is_stream job.body))) }
+        ensures some { IfSome result (λ p. (job : AJob) × IsTaken self.now.list id job
+            × (p ≡ (job.header.stream_id, is_stream job.body))) }
         ensures none { IfNone result (IsUnknown self.now.list id) }
     {
         match self.jobs.get(id) {
@@ -50,17 +52,17 @@ impl Jobs {
         }
     }
 
-    /// Whether a job of this id was made. Takes no memory.
+    /// Returns whether a job of this id was made.
     pub(crate) fn was_made(&self, id: JobId) -> bool
         ensures { result ≡ was_made self.now id }
     {
         0 < id && id <= self.last
     }
 
-    /// Puts a thing into the mailbox of this job, if it is a stream's; `ends` says that it is the last. An `Err` changes
-    /// nothing.
+    /// Puts a thing into the mailbox of this job, if it is a stream's. If `ends` is true the thing is the last. An `Err` changes nothing.
     pub(crate) fn put(&mut self, id: JobId, thing: Thing, ends: bool) -> Result<(), AllocError>
-        ensures ok { OnOk result (self.new ≡ record self.old { list = on_mail id (λ m. with_thing m thing ends) self.old.list }) }
+        ensures ok { OnOk result (self.new
+            ≡ record self.old { list = on_mail id (λ m. with_thing m thing ends) self.old.list }) }
         ensures err { OnErr result (self.new ≡ self.old) }
     {
         let Some(job) = self.jobs.get_mut(id) else {
@@ -69,7 +71,7 @@ impl Jobs {
         job.body.put(thing, ends)
     }
 
-    /// Nobody receives any more what comes for this job, if it is a stream's. Takes no memory.
+    /// Drops the receiver of this job, if it is a stream's.
     pub(crate) fn drop_receiver(&mut self, id: JobId)
         ensures { self.new ≡ record self.old { list = on_mail id without_receiver self.old.list } }
     {
@@ -79,7 +81,7 @@ impl Jobs {
         job.body.drop_receiver();
     }
 
-    /// Gives the next item of this job, which is a stream's, or why there is none. Otherwise there is no answer.
+    /// Takes the next item of this job, or returns why there is none. Returns `None` if there is no stream's job of this id.
     pub(crate) fn recv(
         &mut self,
         alloc: Global,

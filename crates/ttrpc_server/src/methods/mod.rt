@@ -1,5 +1,5 @@
-//! The handlers of a server's methods, each under its path: which there are, and what they are called in a core. No
-//! socket and no thread is in here.
+//! The handlers of a server's methods, each under its path: the handlers themselves, and the names that a core needs. No socket and no
+//! thread is in here.
 
 ghost use Rattle.std.specs.Prelude.{◌≡◌, ◌⊎◌, ◌&&◌, ◌||◌, ℕ, List, [], codes, is_some, string_bytes, IfErr, IfOk, MatchOption, OnErr, OnOk};
 ghost use Rattle.std.specs.BTreeMap.{get_by_text};
@@ -28,11 +28,12 @@ impl<H: Drop> Model for Methods<H> {
 
     ghost Value = { Handlers H };
 
-    ghost view = { λ a. map (λ s. (string_bytes s.0, map (λ m. (string_bytes m.0, m.1)) s.1.entries)) a.services.entries };
+    ghost view = { λ a. map (λ s.
+        (string_bytes s.0, map (λ m. (string_bytes m.0, m.1)) s.1.entries)) a.services.entries };
 }
 
 impl<H: Drop> Methods<H> {
-    /// No handlers. Takes no memory.
+    /// Returns a `Methods` without handlers. Takes no memory.
     pub fn new(alloc: Global) -> Methods<H>
         ensures { result ≡ [] }
     {
@@ -41,8 +42,8 @@ impl<H: Drop> Methods<H> {
         }
     }
 
-    /// Adds a handler under its path, `/SERVICE/METHOD`, which the last slash divides. It replaces an earlier handler.
-    /// A text without two slashes is no path, and refused as `Others`. An `Err` changes nothing.
+    /// Adds a handler under its path, `/SERVICE/METHOD`, which the last slash divides. The handler replaces an earlier one. A text that
+    /// doesn't begin with a slash, or has no other, is no path and is refused as `Others`. An `Err` changes nothing.
     pub fn add(&mut self, alloc: Global, path: &str, handler: H) -> Result<()>
         ensures ok { OnOk result (Adds self.old path.now handler self.new) }
         ensures refused { IfErr result (IsNotAdded path.now) }
@@ -59,7 +60,8 @@ impl<H: Drop> Methods<H> {
     pub fn add_all(&mut self, alloc: Global, handlers: BTreeMap<String, H>) -> Result<()>
         ensures ok { OnOk result (AddsAll self.old handlers.entries self.new) }
         ensures refused { IfErr result (IsNotAllAdded handlers.entries) }
-        ensures err { OnErr result (SomeFront handlers.entries (λ front. AddsAll self.old front self.new)) }
+        ensures err { OnErr result
+            (SomeFront handlers.entries (λ front. AddsAll self.old front self.new)) }
     {
         for (path, handler) in handlers {
             self.add(alloc, path.as_str(), handler)?;
@@ -67,8 +69,8 @@ impl<H: Drop> Methods<H> {
         Ok(())
     }
 
-    /// Adds the handlers of a service, each under its name. One of a name that stands already takes the place of that. At an
-    /// `Err` the first of them, by rising name, have been added.
+    /// Adds the handlers of a service, each under its name. A handler replaces an earlier one of its name. At an `Err` the first of them,
+    /// by rising name, have been added.
     pub fn put_all(
         &mut self,
         alloc: Global,
@@ -76,7 +78,8 @@ impl<H: Drop> Methods<H> {
         handlers: BTreeMap<String, H>,
     ) -> std::result::Result<(), AllocError>
         ensures ok { OnOk result (PutsAll self.old service.now handlers.entries self.new) }
-        ensures err { OnErr result (SomeFront handlers.entries (λ front. PutsAll self.old service.now front self.new)) }
+        ensures err { OnErr result
+            (SomeFront handlers.entries (λ front. PutsAll self.old service.now front self.new)) }
     {
         for (name, handler) in handlers {
             self.put(alloc, service, name.as_str(), handler)?;
@@ -84,7 +87,7 @@ impl<H: Drop> Methods<H> {
         Ok(())
     }
 
-    /// The handler takes its place under a service and a method. An `Err` changes nothing.
+    /// Puts a handler under a service and a method. An `Err` changes nothing.
     fn put(
         &mut self,
         alloc: Global,
@@ -107,16 +110,17 @@ impl<H: Drop> Methods<H> {
         Ok(())
     }
 
-    /// The handler of this method, if there is one. Takes no memory.
+    /// Returns the handler of this method, if there is one. Takes no memory.
     pub fn get(&self, service: &str, method: &str) -> Option<&H>
         ensures { option_copied result ≡ handler_of self.now service.now method.now }
     {
         self.services.get(service)?.get(method)
     }
 
-    /// The names of the methods, for a core.
+    /// Returns the names of the methods, for a core.
     pub fn registry(&self, alloc: Global) -> std::result::Result<Registry, AllocError>
-        ensures methods { IfOk result (λ registry. (s m : List ℕ) → has_method registry s m ≡ is_some (handler_of self.now s m)) }
+        ensures methods { IfOk result (λ registry. (s m : List ℕ)
+            → has_method registry s m ≡ is_some (handler_of self.now s m)) }
         ensures streams { IfOk result (λ registry. registry.streams ≡ []) }
     {
         let mut registry = Registry::new(alloc);
@@ -124,8 +128,7 @@ impl<H: Drop> Methods<H> {
         Ok(registry)
     }
 
-    /// Adds these names to those that a core knows, as the names of methods or of streams. At an `Err` some of them may have
-    /// been added.
+    /// Adds these names to those that a core knows, as the names of methods or of streams. At an `Err` some of them may have been added.
     pub fn name_in(
         &self,
         registry: &mut Registry,
@@ -143,7 +146,7 @@ impl<H: Drop> Methods<H> {
     }
 }
 
-/// What names stand for.
+/// The kind of things that names are given to.
 #[derive(Clone, Copy, Debug, PartialEq, Eq)]
 pub enum Named {
     /// Methods.
@@ -152,7 +155,7 @@ pub enum Named {
     Streams,
 }
 
-/// Gives the registry's service these names. The others stay as they are.
+/// Adds these names to a service of the registry. The other names stay as they are.
 fn add_names<H>(
     registry: &mut Registry,
     alloc: Global,
@@ -161,7 +164,8 @@ fn add_names<H>(
     named: Named,
 ) -> std::result::Result<(), AllocError>
     ensures names { OnOk result ((s m : List ℕ) → has_name (names_in named registry.new) s m
-        ≡ ((bytes_eq s service.now && is_some (get_by_text names.now m)) || has_name (names_in named registry.old) s m)) }
+        ≡ ((bytes_eq s service.now && is_some (get_by_text names.now m))
+        || has_name (names_in named registry.old) s m)) }
     ensures others { others_in named registry.new ≡ others_in named registry.old }
 {
     for (name, _) in names.iter() {
@@ -177,7 +181,7 @@ fn add_names<H>(
     Ok(())
 }
 
-/// Gives the registry's service this name. An `Err` changes nothing.
+/// Adds a name to a service of the registry. An `Err` changes nothing.
 fn add_name(
     registry: &mut Registry,
     alloc: Global,
@@ -185,7 +189,8 @@ fn add_name(
     name: Text,
     named: Named,
 ) -> std::result::Result<(), AllocError>
-    ensures name { OnOk result (AddsName (names_in named registry.old) service name (names_in named registry.new)) }
+    ensures name { OnOk result
+        (AddsName (names_in named registry.old) service name (names_in named registry.new)) }
     ensures others { others_in named registry.new ≡ others_in named registry.old }
     ensures err { OnErr result (registry.new ≡ registry.old) }
 {
@@ -195,14 +200,15 @@ fn add_name(
     }
 }
 
-/// The service and the method of a path. The method has no slash.
+/// Returns the service and the method of a path, if the text is one. The method has no slash.
 fn parts_of(path: &str) -> Option<(&str, &str)>
-    ensures { MatchOption result (IsNoPath path.now) (λ parts. IsPath path.now parts.0.now parts.1.now) }
+    ensures { MatchOption result (IsNoPath path.now)
+        (λ parts. IsPath path.now parts.0.now parts.1.now) }
 {
     path.strip_prefix('/')?.rsplit_once('/')
 }
 
-/// The error of a text that is no path, or `NoMemory` where memory for its text was refused.
+/// Returns the error for a text that is no path, or `NoMemory` if memory for its text was refused.
 fn no_path_error(alloc: Global, path: &str) -> Error
     ensures { (result ≡ AnError.Others (no_path_text path.now)) ⊎ (result ≡ AnError.NoMemory) }
 {
