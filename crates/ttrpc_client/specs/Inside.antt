@@ -1,4 +1,4 @@
--- What the parts of a call do, which its users need not read.
+-- The effects of the parts of a call, which its users need not read.
 -- Source: this project's.
 use Rattle.std.specs.Prelude.{◌≡◌, ◌⊎◌, ◌≤◌, ℕ, ◌+◌, ◌++◌, List, [], ◌∷◌, ◌&&◌, not, if◌then◌else◌, Option, None, Some, Bool, IsPermutation, true}
 use Rattle.std.specs.Ordering.{nat_cmp}
@@ -19,27 +19,27 @@ use Rattle.ttrpc_secure.specs.declared.transform.InboundTransform.{Ghosts as Inb
 use Rattle.ttrpc_connection.specs.Feeds.{Ways}
 use Rattle.ttrpc_client.specs.Streaming.{IsOpeningFrame}
 
--- ---- what clauses of a connection know of a client
+-- ---- the facts that clauses of a connection know about a client
 
--- a frame lands, whatever the state of the outbound half
+-- Holds if a frame lands, in any state of the outbound half.
 abbrev pub lands_once : {O : Type 0} → Client → O → Arrived → List Sent → Client → Type 0
 lands_once old o a sent new = LandsOnce old a sent new
 
--- A client's table fails at no frame: while a frame is handled, want of memory alone fails a client.
+-- Holds for no failure: while a frame is handled, only refused memory fails a client.
 abbrev pub fails_not : Client → Arrived → Failure → Type 0
 fails_not old a failure = ⊥
 
--- a client takes whatever comes in
+-- Returns true, since a client takes all input.
 abbrev pub takes_always : Client → Bool
 takes_always s = true
 
--- what the clauses know of a client core over these halves
+-- Returns the facts that clauses know about a client core over these halves.
 abbrev pub calling : {O I : Type 0} → OutboundTransform O → InboundTransform I → Ways Client O I
 calling out in_ = record { out = out; in_ = in_; core = record { reacts = lands_once; fails = fails_not; takes = takes_always; ROOM = 0 } }
 
--- ---- what is done to it
+-- ---- changes of a client
 
--- a new call waits
+-- Holds if a new call waits.
 pub record Admits (old : Client) (id : ℕ) (deadline : Option ℕ) (new : Client) : Type 0 where
   pub fresh : call_at old id ≡ None
   pub told : told_left old.calls old.ended ≡ old.ended
@@ -50,7 +50,7 @@ pub record Admits (old : Client) (id : ℕ) (deadline : Option ℕ) (new : Clien
   pub id_is : id ≡ old.next
   pub same : new ≡ record old { next = id + 2; calls = new.calls }
 
--- a new stream is kept
+-- Holds if a new stream is kept.
 pub record AdmitsStream (old : Client) (id : ℕ) (stream : Stream) (new : Client) : Type 0 where
   pub fresh : stream_at old id ≡ None
   pub streams : new.streams ≡ insert_entry nat_cmp old.streams id stream
@@ -60,7 +60,7 @@ pub record AdmitsStream (old : Client) (id : ℕ) (stream : Stream) (new : Clien
   pub id_is : id ≡ old.next
   pub same : new ≡ record old { next = id + 2; streams = new.streams }
 
--- one that waited has ended in some way
+-- Holds if a call that waited has ended in some way.
 pub record Settles (old : Client) (id : ℕ) (call : Call) (new : Client) : Type 0 where
   pub own : call_at new id ≡ Some call
   pub others : OthersStay old.calls id new.calls
@@ -68,30 +68,30 @@ pub record Settles (old : Client) (id : ℕ) (call : Call) (new : Client) : Type
   pub was_ordered : IsStrictlySortedBy nat_cmp (keys_of old.calls)
   pub same : new ≡ record old { calls = new.calls; ended = old.ended ++ id ∷ [] }
 
--- one that was due has expired, and the others that were are still due
+-- Holds if a call that was due has expired, and the others that were due still are.
 pub record ExpiresOne (old : Client) (now id : ℕ) (new : Client) : Type 0 where
   pub due : IsPermutation (id ∷ due_ids now new.calls) (due_ids now old.calls)
   pub calls : (k : ℕ) → expired_at now (call_at new k) ≡ expired_at now (call_at old k)
   pub same : new ≡ record old { calls = new.calls; ended = old.ended ++ id ∷ [] }
 
--- the call of this id is no longer kept
+-- Holds if the call of this id is no longer kept.
 pub record Leaves (old : Client) (id : ℕ) (new : Client) : Type 0 where
   pub own : call_at new id ≡ None
   pub others : OthersStay old.calls id new.calls
   pub calls : new.calls ≡ remove_entry (is_at (nat_cmp id)) old.calls
   pub same : new ≡ record old { calls = new.calls; ended = told_left new.calls old.ended }
 
--- the call whose outcome can be given, by whether the connection has failed
+-- Returns the call if its outcome can be given, by whether the connection has failed.
 abbrev pub given_of : Bool → Option Call → Option Call
 given_of failed call = if waits call && not failed then None else call
 
--- it is taken, and no other
+-- Holds if the call of this id was taken out if its outcome can be given, and no other call changed.
 pub record Takes (failed : Bool) (old : Client) (id : ℕ) (new : Client) : Type 0 where
   pub own : call_at new id ≡ left_of failed (call_at old id)
   pub others : OthersStay old.calls id new.calls
   pub same : new ≡ record old { calls = new.calls; ended = told_left new.calls old.ended }
 
--- A call was made: it waits, and its request is sealed and queued.
+-- Holds if a call was made: it waits, and its request is sealed and queued.
 pub record Begins {O I : Type 0} (out : OutboundTransform O) (old : ClientCore O I) (id : ℕ) (plain : List ℕ) (deadline : Option ℕ) (new : ClientCore O I) : Type 0 where
   pub own : call_at new.state id ≡ Some (Waiting deadline)
   pub others : OthersStay old.state.calls id new.state.calls
@@ -103,7 +103,7 @@ pub record Begins {O I : Type 0} (out : OutboundTransform O) (old : ClientCore O
     connection = record old.connection { outbox = new.connection.outbox };
   }
 
--- A stream was opened: it is kept, and its request is sealed and queued.
+-- Holds if a stream was opened: it is kept, and its request is sealed and queued.
 pub record BeginsStream {O I : Type 0} (out : OutboundTransform O) (old : ClientCore O I) (streaming_client streaming_server : Bool) (id : ℕ) (plain : List ℕ) (new : ClientCore O I) : Type 0 where
   pub own : stream_at new.state id ≡ Some (new_stream streaming_client streaming_server)
   pub others : StreamsStay old.state.streams id new.state.streams
@@ -115,18 +115,18 @@ pub record BeginsStream {O I : Type 0} (out : OutboundTransform O) (old : Client
     connection = record old.connection { outbox = new.connection.outbox };
   }
 
--- the half refuses to seal data in such a frame, for this reason
+-- Holds if the half refuses to seal data in such a frame, for this reason.
 pub record RefusesSealing {O I : Type 0} (out : OutboundTransform O) (old : ClientCore O I) (is_such : Queued → Type 0) (plain why : List ℕ) : Type 0 where
   pub frame : Queued
   pub is_frame : is_such frame
   pub refuses : out.refuses old.connection.outbox.half plain (associated frame.message.header) why
 
--- it may fail so
+-- Holds if sealing may fail with this error.
 abbrev pub MayRefuse : {O I : Type 0} → OutboundTransform O → ClientCore O I → (Queued → Type 0) → List ℕ → TransformError → Type 0
 MayRefuse out old is_such plain (Refused why) = RefusesSealing out old is_such plain why
 MayRefuse out old is_such plain NoMemory = Unit {0}
 
--- what is written for a request: the next id, and its bytes, which fit
+-- Holds if this is written for a request: the next id, and the request's bytes, which fit.
 pub record IsWritten {O I : Type 0} (out : OutboundTransform O) (old : ClientCore O I) (r : Request) (id : ℕ) (bytes : List ℕ) : Type 0 where
   pub id_is : id ≡ old.state.next
   pub in_range : id ≤ last_id
@@ -134,6 +134,6 @@ pub record IsWritten {O I : Type 0} (out : OutboundTransform O) (old : ClientCor
   pub room : request_room out old.connection.outbox.half r ≤ free old.connection.outbox.queue
   pub bytes_are : bytes ≡ request_bytes r
 
--- or why nothing is
+-- Holds if nothing is written for a request, with this error.
 abbrev pub IsUnwritten : {O I : Type 0} → OutboundTransform O → ClientCore O I → Request → Error → Type 0
 IsUnwritten out old r told = HasNoId old r told ⊎ IsAboveLimit out old r told ⊎ HasNoRoom out old r told ⊎ ((told ≡ MemoryRefused) × (old.connection.failure ≡ None))

@@ -1,4 +1,4 @@
--- What the state of a client keeps beside what is seen of it.
+-- The parts of a client's state that aren't seen from outside.
 -- Source: this project's.
 use Rattle.std.specs.Prelude.{◌≡◌, ◌≤◌, ℕ, ◌+◌, List, Option, None, Some, if◌then◌else◌, sum_by}
 use Rattle.std.specs.Ordering.{nat_cmp}
@@ -8,27 +8,27 @@ use Rattle.ttrpc_connection.specs.Deadlines.{has_deadline, is_moment}
 use Rattle.ttrpc_client.specs.Types.{Call, Waiting}
 use Rattle.ttrpc_client.specs.State.{IsClient, call_in, told_left, waits}
 
--- the moment until which a call waits, if it waits and there is one
+-- Returns the deadline of a call, if the call waits and has one.
 abbrev pub deadline_in : Option Call → Option ℕ
 deadline_in (Some (Waiting deadline)) = deadline
 deadline_in call = None
 
--- ---- what is kept
+-- ---- the state that is kept
 
--- 1 for a call that waits, and 0 for any other
+-- Returns 1 for a call that waits, and 0 for any other.
 abbrev pub weight : Call → ℕ
 weight call = if waits (Some call) then 1 else 0
 
--- how many calls wait
+-- Returns how many calls wait.
 abbrev pub waiting_in : List (ℕ × Call) → ℕ
 waiting_in calls = sum_by weight (values_of calls)
 
--- the deadlines are those of the calls that wait
+-- Holds if the deadlines are those of the calls that wait.
 abbrev pub AreDeadlines : List (ℕ × ℕ) → List (ℕ × Call) → Type 0
 AreDeadlines deadlines calls = (at id : ℕ) → has_deadline deadlines at id ≡ is_moment at (deadline_in (call_in calls id))
 
--- What holds of the state of every client: there is room for each call that waits to be told of as ended, too, and
--- where no call is left none is told of.
+-- Holds if the state has the properties of every client. There is room to report each call that waits as ended, too, and if no call is
+-- left, none is reported.
 pub record IsKept (next : ℕ) (calls : List (ℕ × Call)) (deadlines : List (ℕ × ℕ)) (ended : List ℕ) (used room : ℕ) : Type 0 where
   pub valid : IsClient next calls
   pub ordered : IsStrictlySortedBy nat_cmp (keys_of calls)

@@ -1,7 +1,7 @@
--- The protocol of a client, from top to bottom: what a frame gives the call or the stream of its id, what each call of the
--- core does, and for what it is refused. What is done on streams is in `Streaming`. That a response ends the call or stream of its id, what the flags of data mean,
--- and that ids are odd and rise, are PROTOCOL.md's. What it leaves open, which is errors and their texts, is as the Rust
--- crate has it. Deadlines, what dropping does and the order of refusals are this project's.
+-- The protocol of a client, from top to bottom: the effect of a frame on the call or stream of its id, the effect of each call, and the
+-- reasons for refusals. The calls on streams are in `Streaming`. PROTOCOL.md defines that a response ends the call or stream of its id, the
+-- flags of data, and that ids are odd and rise. The document leaves errors and their texts open, which are as in the Rust crate. Deadlines,
+-- the effect of dropping and the order of refusals are this project's.
 -- Source: PROTOCOL.md of ttrpc, "Request", "Response", "Data" and "Streaming"; the Rust crate; this project's.
 use Rattle.std.specs.Prelude.{◌≡◌, ◌⊎◌, ◌<◌, ◌≤◌, ◌-◌, ◌^◌, ℕ, ◌+◌, ◌&&◌, not, List, [], ◌∷◌, ◌++◌, length, min, codes, Option, Some, None, Bool, true, false, Result, Ok, Err, is_some, nat_eq, nat_lt, ℤ, pos, zero, IsPermutation, if◌then◌else◌}
 use Rattle.std.specs.BTreeSet.{insert_key}
@@ -32,36 +32,36 @@ use Rattle.ttrpc_client.specs.declared.client.ClientCore.{ClientCore}
 use Rattle.ttrpc_client.specs.State.{Client, OthersStay, call_at, call_in, new_client, stream_at, throws, told_left, waits, is_due, due_at, due_ids}
 use Rattle.ttrpc_client.specs.Streams.{StreamsStay, hears, is_entered, stream_in, with_news}
 
--- ---- what a frame gives the call of its id
+-- ---- the effect of a frame on the call of its id
 -- Source: PROTOCOL.md of ttrpc, "Response" and "Data"; errors and texts: the Rust crate.
 
--- what a frame gives a call that waits
+-- The effect of a frame on a call that waits.
 pub data Landing : Type 0 where
   -- this outcome
   Gives : (outcome : Result Response Error) → Landing
-  -- an error whose text begins so, and is otherwise left open
+  -- an error with a text that begins so and has any end
   GivesBeginning : (text : List ℕ) → Landing
 
--- a status of another code than OK is a refusal
+-- Returns the response, or its status as an error if the code isn't OK.
 abbrev pub by_code : ℤ → Status → Response → Result Response Error
 by_code (pos zero) s r = Ok r
 by_code code s r = Err (RpcStatus s)
 
--- the outcome that a response gives: the response, or its status as an error where that is a refusal
+-- Returns the outcome that a response gives: the response, or its status as an error if the code isn't OK.
 abbrev pub by_status : Option Status → Response → Result Response Error
 by_status None r = Ok r
 by_status (Some s) r = by_code s.code s r
 
--- what a response gives, and what bytes give that mean none
+-- Returns the effect of a response, or of bytes that can't be read as one.
 abbrev pub read_landing : Option Response → Landing
 read_landing None = GivesBeginning (codes "Unpack response error ")
 read_landing (Some r) = Gives (by_status r.status r)
 
--- a frame of this header ends no call well
+-- Returns the text of the error for a frame of an unexpected type.
 abbrev pub malformed_text : MessageHeader → List ℕ
 malformed_text h = codes "Receiver got malformed packet: type " ++ decimal h.type_ ++ codes ", flags " ++ decimal h.flags ++ codes ", stream " ++ decimal h.stream_id
 
--- from top to bottom
+-- Returns the effect of a frame on a call that waits. The first test that fits counts.
 abbrev pub landing_of : MessageHeader → Opening → Landing
 landing_of h TooLong = Gives (Err (RpcStatus (status_of INVALID_ARGUMENT (oversize_text h.length))))
 landing_of h (Refused why) = Gives (Err (Others (unopened_text why)))
@@ -70,51 +70,52 @@ landing_of h (Opened plain) =
     if nat_eq h.type_ MESSAGE_TYPE_RESPONSE then read_landing (read_from response_step empty_response plain) else
     Gives (Err (Others (malformed_text h)))
 
--- the outcome is what the frame gives
+-- Holds if the frame gives this outcome.
 abbrev pub IsLanding : Landing → Result Response Error → Type 0
 IsLanding (Gives given) outcome = outcome ≡ given
 IsLanding (GivesBeginning text) outcome = (rest : List ℕ) × (outcome ≡ Err (Others (text ++ rest)))
 
--- what it makes of the call: one that waits ends with the outcome, and any other stays as it is
+-- Holds if a frame has this effect on a call: a call that waits ends with the outcome, and any other stays as it is.
 abbrev pub LandsOn : Landing → Option Call → Option Call → Type 0
 LandsOn landing (Some (Waiting deadline)) new = (outcome : Result Response Error) × IsLanding landing outcome × (new ≡ Some (Ended outcome))
 LandsOn landing old new = new ≡ old
 
--- it lands on the call of this id, and on no other
+-- Holds if the frame has its effect on the call of this id, and on no other.
 pub record Lands (landing : Landing) (id : ℕ) (old new : List (ℕ × Call)) : Type 0 where
   pub own : LandsOn landing (call_in old id) (call_in new id)
   pub others : OthersStay old id new
 
--- ---- what a frame brings a stream
+-- ---- the effect of a frame on a stream
 -- Source: PROTOCOL.md of ttrpc, "Response", "Data" and "Streaming"; errors and texts: the Rust crate.
 
--- what a frame brings a stream that no frame has ended
+-- The effect of a frame on a stream that no frame has ended.
 pub data News : Type 0 where
-  -- this thing, and whether it ends the stream
+  -- this thing, which ends the stream if `ends` is true
   Brings : (thing : Thing) → (ends : Bool) → News
-  -- an error that ends it, whose text begins so, and is otherwise left open
+  -- an error that ends the stream, with a text that begins so and has any end
   BringsBeginning : (text : List ℕ) → News
 
--- an error behind which nothing is received
+-- Returns the news of an error after which nothing is received.
 abbrev pub breaks_with : Error → News
 breaks_with error = Brings (Breaking error) true
 
--- the response closes the stream: with its payload as an item, or with its status as an error
+-- Returns the news of a response, which closes the stream: with its payload as an item, or with its status as an error.
 abbrev pub closing_news : Result Response Error → News
 closing_news (Ok r) = Brings (Last r.payload) true
 closing_news (Err error) = Brings (Closing error) true
 
--- the same of a response, and what bytes give that mean none
+-- Returns the news of a response, or of bytes that can't be read as one.
 abbrev pub response_news : Option Response → News
 response_news None = BringsBeginning (codes "Decode message failed. ")
 response_news (Some r) = closing_news (by_status r.status r)
 
--- data bring an item, unless the stream was opened without them; what closes, ends
+-- Returns the news of data: an item or an end, or an error if the stream was opened to receive none. Data with the flag that closes end the
+-- stream.
 abbrev pub data_news : Bool → MessageHeader → List ℕ → News
 data_news true h plain = Brings (data_thing h.stream_id h.flags plain) (has_flag FLAG_REMOTE_CLOSED h.flags)
 data_news false h plain = Brings (Closing (Others (codes "received data from non-streaming server."))) (has_flag FLAG_REMOTE_CLOSED h.flags)
 
--- from top to bottom, by whether the stream was opened to receive items
+-- Returns the news of a frame, by whether the stream was opened to receive items. The first test that fits counts.
 abbrev pub news_of : Bool → MessageHeader → Opening → News
 news_of streaming_server h TooLong = breaks_with (RpcStatus (status_of INVALID_ARGUMENT (oversize_text h.length)))
 news_of streaming_server h (Refused why) = breaks_with (Others (unopened_text why))
@@ -124,35 +125,35 @@ news_of streaming_server h (Opened plain) =
     if nat_eq h.type_ MESSAGE_TYPE_DATA then data_news streaming_server h plain else
     breaks_with (Others (malformed_text h))
 
--- this is what the frame brings
+-- Holds if the news are this thing, and end the stream or not.
 abbrev pub IsNews : News → Thing → Bool → Type 0
 IsNews (Brings x end) thing ends = (thing ≡ x) × (ends ≡ end)
 IsNews (BringsBeginning text) thing ends = ((rest : List ℕ) × (thing ≡ Closing (Others (text ++ rest)))) × (ends ≡ true)
 
--- what it makes of the stream: its mailbox has the news, unless there is no such stream, or a frame has ended it
+-- Holds if a frame has this effect on a stream: its mailbox has the news, unless there is no such stream or a frame has ended it.
 abbrev pub Reaches : Bool → MessageHeader → Opening → Option Stream → Option Stream → Type 0
 Reaches false h opening old new = new ≡ old
 Reaches true h opening None new = new ≡ None
 Reaches true h opening (Some s) new =
     (thing : Thing) × (ends : Bool) × IsNews (news_of s.streaming_server h opening) thing ends × (new ≡ Some (with_news thing ends s))
 
--- it reaches the stream of this id, and no other
+-- Holds if a frame has its effect on the stream of its id, and on no other.
 pub record ReachesOne (h : MessageHeader) (opening : Opening) (old new : List (ℕ × Stream)) : Type 0 where
   pub own : Reaches (is_entered (stream_in old h.stream_id)) h opening (stream_in old h.stream_id) (stream_in new h.stream_id)
   pub others : StreamsStay old h.stream_id new
 
--- ---- what it does
+-- ---- the effect of a frame on a client
 -- Source: PROTOCOL.md of ttrpc, "Response".
 
--- what is told of a call that a frame lands on: its id, if it waited and so has ended
+-- Returns the id of a call that a frame ends, to be reported, if the call waited.
 abbrev pub ended_by : Option Call → ℕ → List ℕ
 ended_by call id = if waits call then id ∷ [] else []
 
--- the ids of streams for which something came, with this one if a frame under it brings somebody something
+-- Returns the ids of streams for which something came. This id is added if a frame under it brings the stream's receiver something.
 abbrev pub heard_with : Option Stream → ℕ → List ℕ → List ℕ
 heard_with stream id heard = if hears stream then insert_key nat_cmp heard id else heard
 
--- A frame lands on the call of its id, or reaches the stream, and nothing is sent.
+-- Holds if a frame has its effect on the call or the stream of its id, and nothing is sent.
 pub record LandsOnce (old : Client) (a : Arrived) (sent : List Sent) (new : Client) : Type 0 where
   pub lands : Lands (landing_of a.header a.opening) a.header.stream_id old.calls new.calls
   pub reaches : ReachesOne a.header a.opening old.streams new.streams
@@ -167,19 +168,19 @@ pub record LandsOnce (old : Client) (a : Arrived) (sent : List Sent) (new : Clie
 -- ---- a request and its frame
 -- Source: PROTOCOL.md of ttrpc, "Request" and "Streaming".
 
--- the written form of a request
+-- Returns the written form of a request.
 abbrev pub request_bytes : Request → List ℕ
 request_bytes r = fields_bytes (request_fields r)
 
--- how long a request is, as far as 32 bits can say it
+-- Returns the length of a request, at most the greatest number of 32 bits.
 abbrev pub request_size : Request → ℕ
 request_size r = min (length (request_bytes r)) (2 ^ 32 - 1)
 
--- the greatest id
+-- Returns the greatest id.
 abbrev pub last_id : ℕ
 last_id = 2 ^ 32 - 1
 
--- a frame that carries the request of a call
+-- Holds if this is the frame for the request of a call.
 pub record IsRequestFrame (id : ℕ) (f : Queued) : Type 0 where
   pub stream_id : f.message.header.stream_id ≡ id
   pub type_ : f.message.header.type_ ≡ MESSAGE_TYPE_REQUEST
@@ -188,11 +189,11 @@ pub record IsRequestFrame (id : ℕ) (f : Queued) : Type 0 where
   pub is_unary_request : f.is_unary_request ≡ true
   pub owner : f.owner ≡ id
 
--- a core that has made no call, with a new connection
+-- Returns a core that has made no call, with a new connection.
 abbrev pub new_core : {O I : Type 0} → ClientKind → ℕ → Facts → O → I → ClientCore O I
 new_core kind next known outbound inbound = record { state = new_client kind next; connection = new_connection known outbound inbound }
 
--- A request was accepted at a moment: its call waits, and it is sealed and queued.
+-- Holds if a request was accepted at a moment: its call waits, and the request is sealed and queued.
 pub record Requests {O I : Type 0} (out : OutboundTransform O) (old : ClientCore O I) (request : Request) (now id : ℕ) (new : ClientCore O I) : Type 0 where
   pub alive : old.connection.failure ≡ None
   pub id_is : id ≡ old.state.next
@@ -211,15 +212,16 @@ pub record Requests {O I : Type 0} (out : OutboundTransform O) (old : ClientCore
 -- ---- outcomes
 -- Source: this project's; the text: the Rust crate.
 
--- an error that is told as an outcome
+-- Holds if the outcome is this error, or `NoMemory` if memory for it was refused.
 abbrev pub TellsOutcome : Error → Option (Result Response Error) → Type 0
 TellsOutcome error given = (told : Error) × IsTold error told × (given ≡ Some (Err told))
 
--- the error for a call that has expired
+-- Returns the error for a call that has expired.
 abbrev pub expired_error : Error
 expired_error = Others (codes "Request deadline elapsed")
 
--- what asking for the outcome of a call gives; after a failure each call that waits has it as its outcome
+-- Holds if this is the result of asking for the outcome of a call. After a failure of the connection, the failure is the outcome of each
+-- call that waits.
 abbrev pub GivesOutcome : Option Failure → Option Call → Option (Result Response Error) → Type 0
 GivesOutcome failure None given = given ≡ None
 GivesOutcome None (Some (Waiting deadline)) given = given ≡ None
@@ -227,15 +229,16 @@ GivesOutcome (Some why) (Some (Waiting deadline)) given = TellsOutcome (error_of
 GivesOutcome failure (Some Expired) given = TellsOutcome expired_error given
 GivesOutcome failure (Some (Ended outcome)) given = given ≡ Some outcome
 
--- and what it leaves of the call, by whether the connection has failed: nothing, unless the call goes on to wait
+-- Returns the call that is left after its outcome was asked for, by whether the connection has failed: none, unless the call goes on to
+-- wait.
 abbrev pub left_of : Bool → Option Call → Option Call
 left_of failed call = if waits call && not failed then call else None
 
--- the core with these calls, and with the ended ones of which it is still to be told
+-- Returns the core with these calls, and with the ended calls that are still to be reported.
 abbrev pub with_calls : {O I : Type 0} → ClientCore O I → List (ℕ × Call) → ClientCore O I
 with_calls c calls = record c { state = record c.state { calls = calls; ended = told_left calls c.state.ended } }
 
--- the outcome of a call was asked for, and given if there was one
+-- Holds if the outcome of a call was asked for, and given if there was one.
 pub record TakesOutcome {O I : Type 0} (old : ClientCore O I) (id : ℕ) (given : Option (Result Response Error)) (new : ClientCore O I) : Type 0 where
   pub gives : GivesOutcome old.connection.failure (call_at old.state id) given
   pub own : call_at new.state id ≡ left_of (is_some old.connection.failure) (call_at old.state id)
@@ -245,27 +248,27 @@ pub record TakesOutcome {O I : Type 0} (old : ClientCore O I) (id : ℕ) (given 
 -- ---- calls that expire
 -- Source: this project's.
 
--- what is kept of an id once a moment has come: a call that is due has expired, and any other stays as it is
+-- Returns the call of an id after a moment has come: a call that is due has expired, and any other stays as it is.
 abbrev pub expired_at : ℕ → Option Call → Option Call
 expired_at now None = None
 expired_at now (Some call) = Some (if is_due now call then Expired else call)
 
--- the calls that are due have expired, in some order
+-- Holds if the calls that are due have expired, in some order.
 pub record Expires (old : Client) (now : ℕ) (new : Client) : Type 0 where
   pub due : List ℕ
   pub is_due : IsPermutation due (due_ids now old.calls)
   pub calls : (k : ℕ) → call_at new k ≡ expired_at now (call_at old k)
   pub same : new ≡ record old { calls = new.calls; ended = old.ended ++ due }
 
--- the requests of these calls are taken back: those that haven't begun are thrown away, and where one has, the
--- connection fails for this
+-- Returns the connection after the requests of these calls were taken back. The requests that haven't begun to leave are thrown away, and
+-- the connection fails for this reason if one has.
 abbrev pub taken_back : {O I : Type 0} → Connection O I → (ℕ → Bool) → Failure → Connection O I
 taken_back c ids why = record c {
   outbox = record c.outbox { queue = without c.outbox.queue ids };
   failure = if has_begun c.outbox.queue ids then first_failure c.failure why else c.failure;
 }
 
--- A moment passed: the calls that are due have expired. Where requests may be thrown away, theirs are taken back.
+-- Holds if a moment passed. The calls that are due have expired, and if requests may be thrown away, those of these calls are taken back.
 pub record Ticks {O I : Type 0} (seals : Bool) (old : ClientCore O I) (now : ℕ) (new : ClientCore O I) : Type 0 where
   pub expires : Expires old.state now new.state
   pub connection : new.connection ≡ (if throws old.state.kind seals
@@ -274,15 +277,16 @@ pub record Ticks {O I : Type 0} (seals : Bool) (old : ClientCore O I) (now : ℕ
 -- ---- calls that are dropped
 -- Source: this project's.
 
--- what dropping leaves of a call
+-- Returns the call that is left after it was dropped: none.
 abbrev pub forgotten : Option Call → Option Call
 forgotten call = None
 
--- whether dropping the call takes its request back: it still waits, and the connection lives
+-- Returns true if dropping the call takes its request back: the connection hasn't failed, requests may be thrown away, and the call still
+-- waits.
 abbrev pub takes_back : {O I : Type 0} → Bool → ClientCore O I → ℕ → Bool
 takes_back seals old id = if is_some old.connection.failure then false else if throws old.state.kind seals then waits (call_at old.state id) else false
 
--- a call was forgotten
+-- Holds if a call was forgotten.
 pub record Forgets {O I : Type 0} (seals : Bool) (old : ClientCore O I) (id : ℕ) (new : ClientCore O I) : Type 0 where
   pub own : call_at new.state id ≡ forgotten (call_at old.state id)
   pub others : OthersStay old.state.calls id new.state.calls
@@ -290,43 +294,43 @@ pub record Forgets {O I : Type 0} (seals : Bool) (old : ClientCore O I) (id : �
     connection = if takes_back seals old id then taken_back old.connection (λ k. nat_eq k id) CancelledDuringWrite else old.connection;
   }
 
--- ---- for what a request is refused, from top to bottom; first, where the connection has failed, for that
+-- ---- why a request is refused: the failure of the connection, or else the first of these that applies
 -- Source: the Rust crate; the order: this project's.
 
--- the connection lives, and the request is longer than a message may be
+-- Holds if the connection hasn't failed, and the request is longer than a message may be.
 pub record IsTooLong {O I : Type 0} (old : ClientCore O I) (r : Request) (told : Error) : Type 0 where
   pub alive : old.connection.failure ≡ None
   pub above : MESSAGE_LENGTH_MAX < request_size r
   pub is_told : IsTold (Others (oversize_text (request_size r))) told
 
--- the connection lives, and the request is no longer than a message may be
+-- Holds if the connection hasn't failed, and the request is no longer than a message may be.
 pub record IsSendable {O I : Type 0} (old : ClientCore O I) (r : Request) : Type 0 where
   pub alive : old.connection.failure ≡ None
   pub short : request_size r ≤ MESSAGE_LENGTH_MAX
 
--- and no id is left
+-- Holds if the request is no longer than a message may be, but no id is left.
 pub record HasNoId {O I : Type 0} (old : ClientCore O I) (r : Request) (told : Error) : Type 0 where
   pub sendable : IsSendable old r
   pub used_up : last_id < old.state.next
   pub is_told : IsTold (Others (codes "stream ids are used up")) told
 
--- what a client of a kind adds to the text on the safe limit
+-- Returns the advice that a client of this kind adds to the text about the safe limit.
 abbrev pub advice : ClientKind → List ℕ
 advice Sync = []
 advice Async = advice_text
 
--- or an id is left, and the request is above the safe limit
+-- Holds if an id is left, but the request is above the safe limit.
 pub record IsAboveLimit {O I : Type 0} (out : OutboundTransform O) (old : ClientCore O I) (r : Request) (told : Error) : Type 0 where
   pub sendable : IsSendable old r
   pub in_range : old.state.next ≤ last_id
   pub above : safe_limit out old.connection.outbox.half < request_size r
   pub is_told : IsTold (Others (unsafe_payload_text (request_size r) (safe_limit out old.connection.outbox.half) (advice old.state.kind))) told
 
--- how many bytes the frame of a request may need: its header, the request, and what sealing may add
+-- Returns how many bytes the frame of a request may need: its header, the request, and the bytes that sealing may add.
 abbrev pub request_room : {O : Type 0} → OutboundTransform O → O → Request → ℕ
 request_room out o r = MESSAGE_HEADER_LENGTH + request_size r + out.overhead o
 
--- or it isn't, and the queue lacks room for it
+-- Holds if the request is within the limit, but the queue lacks room for it.
 pub record HasNoRoom {O I : Type 0} (out : OutboundTransform O) (old : ClientCore O I) (r : Request) (told : Error) : Type 0 where
   pub sendable : IsSendable old r
   pub in_range : old.state.next ≤ last_id
@@ -334,7 +338,7 @@ pub record HasNoRoom {O I : Type 0} (out : OutboundTransform O) (old : ClientCor
   pub lacks : free old.connection.outbox.queue < request_room out old.connection.outbox.half r
   pub is_told : told ≡ NoRoom
 
--- or it has room, and the half refuses it in such a frame, for this reason
+-- Holds if the queue has room, but the half refuses the request in such a frame, for this reason.
 pub record IsUnsealed {O I : Type 0} (out : OutboundTransform O) (old : ClientCore O I) (r : Request) (is_such : Queued → Type 0) (told : Error) : Type 0 where
   pub sendable : IsSendable old r
   pub in_range : old.state.next ≤ last_id
@@ -346,7 +350,7 @@ pub record IsUnsealed {O I : Type 0} (out : OutboundTransform O) (old : ClientCo
   pub refuses : out.refuses old.connection.outbox.half (request_bytes r) (associated frame.message.header) why
   pub is_told : IsTold (Others (unsealed_text why)) told
 
--- or memory is wanted
+-- Holds if a request may be refused with this error, for one of these reasons or because memory was refused.
 abbrev pub RefusesRequest : {O I : Type 0} → OutboundTransform O → ClientCore O I → Request → Error → Type 0
 RefusesRequest out old r told =
     IsFailed old.connection.failure told ⊎ IsTooLong old r told ⊎ HasNoId old r told ⊎ IsAboveLimit out old r told

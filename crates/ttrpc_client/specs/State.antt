@@ -1,4 +1,4 @@
--- What a client core is, beside its connection: the calls and streams that it keeps, by their ids.
+-- The state of a client core, without its connection: the calls and streams that it keeps, by their ids.
 -- Source: PROTOCOL.md of ttrpc, "Request", "Response" and "Streaming".
 use Rattle.std.specs.Prelude.{◌≡◌, ◌≢◌, ◌≤◌, ◌%◌, ◌^◌, ℕ, ◌+◌, List, [], ◌∷◌, Option, None, Some, Bool, false, ◌<◌, map, filter, nat_le}
 use Rattle.std.specs.Map.{lookup}
@@ -7,58 +7,59 @@ use Rattle.std.specs.Ordering.{nat_cmp}
 use Rattle.ttrpc_client.specs.Types.{Call, Waiting, ClientKind, Async, Stream}
 use Rattle.ttrpc_client.specs.Streams.{stream_in}
 
--- all but the connection
+-- The state of a client without its connection.
 pub record Client : Type 0 where
   pub kind : ClientKind
   -- the id of the next call; above 4294967295 there is none
   pub next : ℕ
-  -- what is kept of each call, by rising id
+  -- the state of each call that is kept, by rising id
   pub calls : List (ℕ × Call)
-  -- the ids of calls that ended since it was last asked which have, in the order in which they ended
+  -- the ids of calls that ended, and that weren't reported yet, in the order in which they ended
   pub ended : List ℕ
-  -- what is kept of each stream, by rising id
+  -- the state of each stream that is kept, by rising id
   pub streams : List (ℕ × Stream)
-  -- the ids of streams for which something came since it was last asked for which it has, by rising id
+  -- the ids of streams for which something came, and that weren't reported since, by rising id
   pub heard : List ℕ
 
--- no call was made, and no stream opened
+-- Returns a client that made no call and opened no stream.
 abbrev pub new_client : ClientKind → ℕ → Client
 new_client kind next = record { kind = kind; next = next; calls = []; ended = []; streams = []; heard = [] }
 
--- the state of one id: nothing, if it was never used or is gone
+-- Returns the state of the call of an id: none, if the id was never used or the call is gone.
 abbrev pub call_in : List (ℕ × Call) → ℕ → Option Call
 call_in calls id = lookup (is_at (nat_cmp id)) calls
 
--- the state of one id in this client
+-- Returns the state of the call of an id in this client.
 abbrev pub call_at : Client → ℕ → Option Call
 call_at c id = call_in c.calls id
 
--- the stream of one id in this client
+-- Returns the stream of an id in this client.
 abbrev pub stream_at : Client → ℕ → Option Stream
 stream_at c id = stream_in c.streams id
 
--- the calls of all other ids stay as they are
+-- Holds if the calls of all other ids stay as they are.
 abbrev pub OthersStay : List (ℕ × Call) → ℕ → List (ℕ × Call) → Type 0
 OthersStay old id new = (k : ℕ) → k ≢ id → call_in new k ≡ call_in old k
 
--- what holds of every client: ids are odd, none is above 2^32 - 1, and those that were not given have no call
+-- Holds if calls have the properties of those of every client: ids are odd, none is above 2^32 - 1, and ids that were not given have no
+-- call.
 pub record IsClient (next : ℕ) (calls : List (ℕ × Call)) : Type 0 where
   pub odd : next % 2 ≡ 1
   pub in_range : next ≤ 2 ^ 32 + 1
   pub fresh : (k : ℕ) → next ≤ k → call_in calls k ≡ None
   pub odd_calls : (k : ℕ) → call_in calls k ≢ None → k % 2 ≡ 1
 
--- whether the call waits
+-- Returns true if the call waits.
 abbrev pub waits : Option Call → Bool
 waits (Some (Waiting deadline)) = Bool.true
 waits call = false
 
--- whether a request may be thrown away before it begins: its frame must not be sealed
+-- Returns true if a request may be thrown away before it begins to leave: the client is async, and frames aren't sealed.
 abbrev pub throws : ClientKind → Bool → Bool
 throws Async false = Bool.true
 throws kind seals = false
 
--- which ended calls are still to be told, where these calls are left: none if no call is
+-- Returns the ended calls that are still to be reported if these calls are left: none if no call is.
 abbrev pub told_left : List (ℕ × Call) → List ℕ → List ℕ
 told_left [] ended = []
 told_left (c ∷ cs) ended = ended
@@ -66,21 +67,21 @@ told_left (c ∷ cs) ended = ended
 -- ---- calls that are due
 -- Source: this project's.
 
--- whether the call's deadline has passed at a moment
+-- Returns true if the call waits and its deadline is at or before a moment.
 abbrev pub is_due : ℕ → Call → Bool
 is_due now (Waiting (Some deadline)) = nat_le deadline now
 is_due now call = false
 
--- the same of what is kept of an id
+-- Returns true if there is a call and it is due at a moment.
 abbrev pub due_at : ℕ → Option Call → Bool
 due_at now None = false
 due_at now (Some call) = is_due now call
 
--- the ids of the calls that are due, by rising id
+-- Returns the ids of the calls that are due, by rising id.
 abbrev pub due_ids : ℕ → List (ℕ × Call) → List ℕ
 due_ids now calls = map (λ c. c.0) (filter (λ c. is_due now c.1) calls)
 
--- the least moment at which a call expires
+-- Holds if this is the least moment at which a call expires.
 pub record IsDeadline (calls : List (ℕ × Call)) (at : ℕ) : Type 0 where
   pub some : due_ids at calls ≢ []
   pub earlier : (now : ℕ) → now < at → due_ids now calls ≡ []

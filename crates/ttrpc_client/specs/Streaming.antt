@@ -1,5 +1,5 @@
--- Streams of a client, from top to bottom: how they are opened, what is sent and received on them, and for what each is
--- refused. What a frame brings one is in `Protocol`.
+-- The streams of a client, from top to bottom: how they are opened, how items are sent and received on them, and why each is refused. The
+-- effect of a frame on a stream is in `Protocol`.
 -- Source: PROTOCOL.md of ttrpc, "Data" and "Streaming"; the Rust crate; this project's.
 use Rattle.std.specs.Prelude.{◌≡◌, ◌≢◌, ◌⊎◌, ◌≤◌, ℕ, ◌+◌, not, List, [], codes, Option, Some, None, Bool, true, false, Result, Err, if◌then◌else◌}
 use Rattle.std.specs.BTreeMap.{is_at}
@@ -22,12 +22,13 @@ use Rattle.ttrpc_client.specs.Protocol.{HasNoId, HasNoRoom, IsAboveLimit, IsSend
 -- ---- streams that are opened
 -- Source: PROTOCOL.md of ttrpc, "Streaming"; the order of refusals: this project's.
 
--- the flags of the request that opens a stream: to send items, when it has none itself, or not to
+-- Returns the flags of the request that opens a stream. If the stream is to send items the request has no data, and else the request closes
+-- the sending side.
 abbrev pub opening_flags : Bool → ℕ
 opening_flags true = FLAG_REMOTE_OPEN + FLAG_NO_DATA
 opening_flags false = FLAG_REMOTE_CLOSED
 
--- a frame that carries the request of a stream
+-- Holds if this is the frame for the request of a stream.
 pub record IsOpeningFrame (streaming_client : Bool) (id : ℕ) (f : Queued) : Type 0 where
   pub stream_id : f.message.header.stream_id ≡ id
   pub type_ : f.message.header.type_ ≡ MESSAGE_TYPE_REQUEST
@@ -36,7 +37,7 @@ pub record IsOpeningFrame (streaming_client : Bool) (id : ℕ) (f : Queued) : Ty
   pub is_unary_request : f.is_unary_request ≡ false
   pub owner : f.owner ≡ id
 
--- A stream was opened: its request is sealed and queued.
+-- Holds if a stream was opened: its request is sealed and queued.
 pub record OpensStream {O I : Type 0} (out : OutboundTransform O) (old : ClientCore O I) (request : Request) (streaming_client streaming_server : Bool) (id : ℕ) (new : ClientCore O I) : Type 0 where
   pub alive : old.connection.failure ≡ None
   pub id_is : id ≡ old.state.next
@@ -53,15 +54,15 @@ pub record OpensStream {O I : Type 0} (out : OutboundTransform O) (old : ClientC
     connection = record old.connection { outbox = new.connection.outbox };
   }
 
--- a stream that sends items is to be opened by a request that has one itself
+-- Holds if a stream is to send items, but its request has a payload.
 pub record HasPayload {O I : Type 0} (old : ClientCore O I) (r : Request) (streaming_client : Bool) (told : Error) : Type 0 where
   pub sendable : IsSendable old r
   pub streaming : streaming_client ≡ true
   pub payload : r.payload ≢ []
   pub is_told : IsTold (RpcStatus (status_of INVALID_ARGUMENT (codes "Creating a ClientStream and sending payload at the same time is not allowed"))) told
 
--- For what a stream isn't opened: what a request is refused for, in its order, and, behind its length, its payload. Or
--- memory is wanted.
+-- Holds if a stream may be refused with this error. The reasons are those for a request, in their order, with the payload checked after the
+-- length.
 abbrev pub RefusesStream : {O I : Type 0} → OutboundTransform O → ClientCore O I → Request → Bool → Error → Type 0
 RefusesStream out old r streaming_client told =
     IsFailed old.connection.failure told ⊎ IsTooLong old r told ⊎ HasPayload old r streaming_client told
@@ -69,30 +70,30 @@ RefusesStream out old r streaming_client told =
     × (HasNoId old r told ⊎ IsAboveLimit out old r told ⊎ HasNoRoom out old r told ⊎ IsUnsealed out old r (IsOpeningFrame streaming_client old.state.next) told))
     ⊎ ((told ≡ NoMemory) × (old.connection.failure ≡ None))
 
--- ---- items that are sent, and the close behind them
+-- ---- items that are sent, and the close after them
 -- Source: PROTOCOL.md of ttrpc, "Data" and "Streaming"; errors and texts: the Rust crate; their order: this project's. How data
 -- are sent, and for what they are refused, is said in `Items` of the connection's specs.
 
--- there is no such stream
+-- Returns the error that there is no such stream.
 abbrev pub unknown_error : Error
 unknown_error = Others (codes "unknown stream")
 
--- it was opened without items to send
+-- Returns the error that the stream was opened to send no items.
 abbrev pub unsendable_error : Error
 unsendable_error = Others (codes "stream is not sendable")
 
--- its sender has closed, or was dropped
+-- Returns the error that the sender has closed or was dropped, if this is so.
 abbrev pub closed_error : Sender → Option Error
 closed_error Open = None
 closed_error Closed = Some LocalClosed
 closed_error Dropped = Some LocalClosed
 
--- why nothing may be sent on a stream, from top to bottom
+-- Returns the error why nothing may be sent on a stream, if there is one. The first test that fits counts.
 abbrev pub unsendable : Option Stream → Option Error
 unsendable None = Some unknown_error
 unsendable (Some s) = if s.streaming_client then closed_error s.sender else Some unsendable_error
 
--- Data were sent on a stream in a frame of these flags, and got this ticket; its sender is in this state then.
+-- Holds if data were sent on a stream in a frame of these flags, with this ticket, and the stream's sender is in this state afterwards.
 pub record SendsOn {O I : Type 0} (out : OutboundTransform O) (old : ClientCore O I) (id flags : ℕ) (plain : List ℕ) (sender : Sender) (ticket : ℕ) (new : ClientCore O I) : Type 0 where
   pub alive : old.connection.failure ≡ None
   pub sendable : unsendable (stream_at old.state id) ≡ None
@@ -104,20 +105,20 @@ pub record SendsOn {O I : Type 0} (out : OutboundTransform O) (old : ClientCore 
     connection = record old.connection { outbox = new.connection.outbox };
   }
 
--- the connection lives, and nothing may be sent on the stream
+-- Holds if the connection hasn't failed, but nothing may be sent on the stream.
 pub record IsUnsendable {O I : Type 0} (old : ClientCore O I) (id : ℕ) (told : Error) : Type 0 where
   pub alive : old.connection.failure ≡ None
   pub error : Error
   pub is : unsendable (stream_at old.state id) ≡ Some error
   pub is_told : IsTold error told
 
--- something may be sent on it, but these data aren't
+-- Holds if items may be sent on the stream, but these data aren't.
 pub record IsItemRefused {O I : Type 0} (out : OutboundTransform O) (old : ClientCore O I) (id flags : ℕ) (plain : List ℕ) (told : Error) : Type 0 where
   pub alive : old.connection.failure ≡ None
   pub sendable : unsendable (stream_at old.state id) ≡ None
   pub refuses : RefusesData out (advice old.state.kind) old.connection.outbox id flags plain told
 
--- For what sending is refused, from top to bottom.
+-- Holds if sending may be refused with this error, for the first of these reasons that applies.
 abbrev pub RefusesSending : {O I : Type 0} → OutboundTransform O → ClientCore O I → ℕ → ℕ → List ℕ → Error → Type 0
 RefusesSending out old id flags plain told =
     IsFailed old.connection.failure told ⊎ IsUnsendable old id told ⊎ IsItemRefused out old id flags plain told
@@ -125,24 +126,24 @@ RefusesSending out old id flags plain told =
 -- ---- items that are received, and halves that are dropped
 -- Source: PROTOCOL.md of ttrpc, "Streaming"; the table of a mailbox is `Mail` of the connection's specs.
 
--- the next item of a stream was asked for; the connection's failure stands behind all that came
+-- Holds if this is the result of a call to receive from a stream. The connection's failure comes after all things that came.
 abbrev pub ReceivesAt : Option Failure → Option Stream → Option (Result (List ℕ) Error) → Option Stream → Type 0
 ReceivesAt failure None given new = ((told : Error) × IsTold unknown_error told × (given ≡ Some (Err told))) × (new ≡ None)
 ReceivesAt failure (Some s) given new = (m : Mail) × Receives failure s.mailbox given m × (new ≡ Some (record s { mailbox = m }))
 
--- and this was given
+-- Holds if this is the result of a call to receive, and nothing else changed.
 pub record ReceivesOne {O I : Type 0} (old : ClientCore O I) (id : ℕ) (given : Option (Result (List ℕ) Error)) (new : ClientCore O I) : Type 0 where
   pub own : ReceivesAt old.connection.failure (stream_at old.state id) given (stream_at new.state id)
   pub others : StreamsStay old.state.streams id new.state.streams
   pub same : new ≡ record old { state = record old.state { streams = new.state.streams } }
 
--- nobody receives any more, and nobody is told that something came
+-- Holds if the receiver of a stream was dropped. The stream is no longer one for which something came.
 pub record DropsReceiver {O I : Type 0} (old : ClientCore O I) (id : ℕ) (new : ClientCore O I) : Type 0 where
   pub own : stream_at new.state id ≡ without_reader (stream_at old.state id)
   pub others : StreamsStay old.state.streams id new.state.streams
   pub same : new ≡ record old { state = record old.state { streams = new.state.streams; heard = remove_key (is_at (nat_cmp id)) old.state.heard } }
 
--- nobody sends any more
+-- Holds if the sender of a stream was dropped.
 pub record DropsSender {O I : Type 0} (old : ClientCore O I) (id : ℕ) (new : ClientCore O I) : Type 0 where
   pub own : stream_at new.state id ≡ without_sender (stream_at old.state id)
   pub others : StreamsStay old.state.streams id new.state.streams

@@ -1,26 +1,26 @@
-//! What a client keeps of a call.
+//! The state that a client keeps of a call.
 ghost use Rattle.std.specs.Prelude.{◌≡◌};
 ghost use Rattle.ttrpc_client.specs.State.{is_due};
 ghost use Rattle.ttrpc_client.specs.Kept.{deadline_in};
 
 use ttrpc_proto::{Error, Response};
 
-/// The number of a call, which is the id of its stream: odd, and rising from call to call.
+/// The id of a call, which is also its stream id. Ids are odd, and rise from call to call.
 pub type CallId = u32;
 
-/// What is kept of a call until its outcome is taken.
+/// The state that is kept of a call until its outcome is taken.
 #[derive(Debug, Drop)]
 pub enum Call {
-    /// It waits for its response, until this moment if there is one.
+    /// The call waits for its response, until this deadline if there is one.
     Waiting(Option<u128>),
-    /// Its deadline has passed.
+    /// The call's deadline has passed.
     Expired,
-    /// A frame ended it with this outcome.
+    /// A frame ended the call with this outcome.
     Ended(Result<Response, Error>),
 }
 
 impl Call {
-    /// Whether it waits, and its deadline has come by this moment.
+    /// Returns whether the call waits and its deadline is at or before this moment.
     pub fn is_due(&self, now: u64) -> bool
         ensures { result ≡ is_due now self.now }
     {
@@ -28,7 +28,7 @@ impl Call {
     }
 }
 
-/// The moment until which a call waits, if it waits and there is one.
+/// Returns the deadline of a call, if the call waits and has one.
 pub fn waits_until(call: &Option<Call>) -> Option<u128>
     ensures { result ≡ deadline_in call.now }
 {

@@ -1,4 +1,4 @@
-//! What a frame gives a call that waits, and what it brings a stream.
+//! The outcome that a frame gives a call that waits, and the thing that it brings a stream.
 ghost use Rattle.std.specs.Prelude.{◌≡◌, IfOk, Some, None, true};
 ghost use Rattle.ttrpc_wire.specs.Fold.{read_from};
 ghost use Rattle.ttrpc_proto.specs.Messages.{empty_response, response_step};
@@ -19,7 +19,7 @@ use ttrpc_wire::{Blob, CodecError};
 /// The outcome of a call.
 pub type Outcome = Result<Response, Error>;
 
-/// What a frame of this header gives, by what the inbound half made of it.
+/// Returns the outcome that a frame of this header gives, by the result of the inbound half.
 pub fn outcome_of(
     alloc: Global,
     header: &MessageHeader,
@@ -34,7 +34,7 @@ pub fn outcome_of(
     }
 }
 
-/// What a frame of this header gives, whose payload was opened.
+/// Returns the outcome that a frame of this header gives, with a payload that was opened.
 fn opened_outcome(alloc: Global, header: &MessageHeader, plain: Blob) -> Result<Outcome, AllocError>
     ensures { IfOk result (IsLanding (landing_of header.now (Opening.Opened plain))) }
 {
@@ -51,7 +51,7 @@ fn opened_outcome(alloc: Global, header: &MessageHeader, plain: Blob) -> Result<
     }
 }
 
-/// A response with a status of another code than OK is a refusal.
+/// Returns the outcome that a response gives: its status as an error if the code isn't OK, or else the response.
 fn answered(response: Response) -> Outcome
     ensures { result ≡ by_status response.status response }
 {
@@ -62,7 +62,7 @@ fn answered(response: Response) -> Outcome
     }
 }
 
-/// What a frame brings a stream: a thing, and whether it ends the stream.
+/// The thing that a frame brings a stream, and whether it ends the stream.
 #[derive(Drop)]
 pub struct News {
     pub thing: Thing,
@@ -70,7 +70,7 @@ pub struct News {
 }
 
 impl News {
-    /// An error behind which nothing is received.
+    /// Returns the news of an error after which nothing is received.
     fn breaking(error: Error) -> News
         ensures { result ≡ record { thing = Thing.Breaking error; ends = true } }
     {
@@ -81,7 +81,7 @@ impl News {
     }
 }
 
-/// What a frame of this header brings a stream, by what the inbound half made of it, and by whether the stream was opened to
+/// Returns the news that a frame of this header brings a stream, by the result of the inbound half, and by whether the stream was opened to
 /// receive items.
 pub fn news_of(
     alloc: Global,
@@ -89,7 +89,8 @@ pub fn news_of(
     opening: Opening,
     streaming_server: bool,
 ) -> Result<News, AllocError>
-    ensures { IfOk result (λ news. IsNews (news_of streaming_server header.now opening) news.thing news.ends) }
+    ensures { IfOk result
+        (λ news. IsNews (news_of streaming_server header.now opening) news.thing news.ends) }
 {
     match opening {
         Opening::TooLong => {
@@ -101,14 +102,15 @@ pub fn news_of(
     }
 }
 
-/// What a frame of this header brings, whose payload was opened.
+/// Returns the news that a frame of this header brings, with a payload that was opened.
 fn opened_news(
     alloc: Global,
     header: &MessageHeader,
     plain: Blob,
     streaming_server: bool,
 ) -> Result<News, AllocError>
-    ensures { IfOk result (λ news. IsNews (news_of streaming_server header.now (Opening.Opened plain)) news.thing news.ends) }
+    ensures { IfOk result (λ news.
+        IsNews (news_of streaming_server header.now (Opening.Opened plain)) news.thing news.ends) }
 {
     if plain.len() > MESSAGE_LENGTH_MAX {
         let error = oversize_error(alloc, plain.len(), false)?;
@@ -121,9 +123,10 @@ fn opened_news(
     }
 }
 
-/// What a response of these bytes brings: it ends the stream.
+/// Returns the news that a response of these bytes brings, which ends the stream.
 fn response_news(alloc: Global, bytes: Blob) -> Result<News, AllocError>
-    ensures { IfOk result (λ news. IsNews (response_news (read_from response_step empty_response bytes)) news.thing news.ends) }
+    ensures { IfOk result (λ news. IsNews
+        (response_news (read_from response_step empty_response bytes)) news.thing news.ends) }
 {
     let thing = match decode_in_place(alloc, bytes.into_vec()) {
         Ok(response) => match answered(response) {
@@ -136,14 +139,15 @@ fn response_news(alloc: Global, bytes: Blob) -> Result<News, AllocError>
     Ok(News { thing, ends: true })
 }
 
-/// What data bring: an item, unless the stream was opened to receive none.
+/// Returns the news that data bring: an item or an end, or an error if the stream was opened to receive none.
 fn data_news(
     alloc: Global,
     header: &MessageHeader,
     plain: Blob,
     streaming_server: bool,
 ) -> Result<News, AllocError>
-    ensures { IfOk result (λ news. IsNews (data_news streaming_server header.now plain) news.thing news.ends) }
+    ensures { IfOk result
+        (λ news. IsNews (data_news streaming_server header.now plain) news.thing news.ends) }
 {
     let thing = if streaming_server {
         of_data(alloc, header.stream_id, header.flags, plain)?

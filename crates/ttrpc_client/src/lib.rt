@@ -1,4 +1,4 @@
-//! The core of a client, with no socket, clock or thread: calls and bytes in, bytes and outcomes out.
+//! The core of a client, with no socket, clock or thread. Calls and bytes go in, and bytes and outcomes come out.
 #![tactic(auto)]
 
 pub mod call;

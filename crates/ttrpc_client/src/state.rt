@@ -1,4 +1,5 @@
-//! The state of a client core, without its connection, and how a whole frame acts on it.
+//! The state of a client core, without its connection, and its reactions to whole frames. A function without an `alloc` argument takes no
+//! memory, except `admit`, `admit_stream` and `bring`.
 ghost use Rattle.std.specs.Prelude.{◌≡◌, ◌%◌, ◌+◌, ◌++◌, ◌<◌, ◌^◌, ℕ, [], true, false, option_to_list, IfErr, IfSome, IfNone, OnOk, OnErr, None, Option, Some};
 ghost use Rattle.std.specs.BTreeMap.{is_at};
 ghost use Rattle.std.specs.Option.{option_map};
@@ -28,7 +29,7 @@ use ttrpc_proto::Error;
 use ttrpc_secure::OutboundTransform;
 use ttrpc_wire::Blob;
 
-/// How far ids go.
+/// The greatest id.
 const LAST_ID: u64 = 4294967295;
 
 /// The calls and streams of a client.
@@ -37,12 +38,12 @@ pub struct ClientState {
     kind: ClientKind,
     next: u64,
     calls: Pending<Call>,
-    // Those of the calls that wait.
+    // The deadlines of the calls that wait.
     deadlines: Deadlines,
-    // Has room for each call that waits, too, so that one can always end.
+    // The ended calls, with room for each call that waits, too, so that a call can always end.
     ended: VecDeque<CallId>,
     streams: Streams,
-    // Those for which something came since it was last asked for which it has. Each still has its receiver.
+    // The streams for which something came, and that weren't reported since. Each of these streams still has its receiver.
     heard: BTreeSet<StreamId>,
 }
 
@@ -64,12 +65,13 @@ impl Model for ClientState {
       heard = a.heard.keys;
     } };
 
-    ghost invariant = { λ a. IsKept a.next (entries_in a.calls) a.deadlines a.ended.items (deque_len a.ended) (deque_capacity a.ended)
+    ghost invariant = { λ a. IsKept a.next (entries_in a.calls) a.deadlines a.ended.items
+        (deque_len a.ended) (deque_capacity a.ended)
         × AreStreams a.next (entries_in a.calls) a.streams };
 }
 
 impl ClientState {
-    /// No calls, and this odd id for the first one. Takes no memory.
+    /// Returns a state without calls, which gives its first call this odd id. Takes no memory.
     pub(crate) fn new(alloc: Global, kind: ClientKind, id: CallId) -> Self
         requires { id % 2 ≡ 1 }
         ensures { result ≡ new_client kind id }
@@ -85,7 +87,7 @@ impl ClientState {
         }
     }
 
-    /// A lemma, which does nothing when it runs: what holds of every client.
+    /// States the properties of every client. A lemma, which does nothing when it runs.
     pub(crate) fn lemma_is_client(&self)
         ensures calls { IsClient self.now.next self.now.calls }
         ensures streams { AreStreams self.now.next self.now.calls self.now.streams }
@@ -99,7 +101,7 @@ impl ClientState {
         self.kind
     }
 
-    /// The id of the next call, if one is left.
+    /// Returns the id of the next call, if one is left.
     pub(crate) fn next_id(&self) -> Option<CallId>
         ensures some { IfSome result (λ id. id ≡ self.now.next) }
         ensures none { IfNone result (last_id < self.now.next) }
@@ -110,7 +112,7 @@ impl ClientState {
         Some(self.next as u32)
     }
 
-    /// Keeps a new call, which waits until this moment if there is one. An `Err` changes nothing.
+    /// Keeps a new call, which waits until this deadline if there is one. An `Err` changes nothing.
     pub(crate) fn admit(&mut self, id: CallId, deadline: Option<u128>) -> Result<(), AllocError>
         requires { id ≡ self.old.next }
         ensures ok { OnOk result (Admits self.old id deadline self.new) }
@@ -126,17 +128,18 @@ impl ClientState {
         Ok(())
     }
 
-    /// Takes back the call that was admitted last. Takes no memory.
+    /// Takes back the call that was admitted last.
     pub(crate) fn withdraw(&mut self, id: CallId)
         requires last { self.old.next ≡ id + 2 }
         requires call { stream_at self.old id ≡ None }
-        ensures { (old : Client) → (deadline : Option ℕ) → Admits old id deadline self.old → self.new ≡ old }
+        ensures { (old : Client) → (deadline : Option ℕ)
+            → Admits old id deadline self.old → self.new ≡ old }
     {
         let _ = self.forget(id);
         self.next -= 2;
     }
 
-    /// Keeps nothing of a call any more, and gives what was kept. Takes no memory.
+    /// Forgets a call, and returns the state that was kept of it.
     pub(crate) fn forget(&mut self, id: CallId) -> Option<Call>
         ensures was { result ≡ call_at self.old id }
         ensures leaves { Leaves self.old id self.new }
@@ -149,8 +152,7 @@ impl ClientState {
         call
     }
 
-    /// Takes the call out whose outcome can be given: it has ended, or waits and the connection has failed. Takes no
-    /// memory.
+    /// Takes out the call of this id if its outcome can be given: the call has ended, or it waits and the connection has failed.
     pub(crate) fn take(&mut self, id: CallId, failed: bool) -> Option<Call>
         ensures given { result ≡ given_of failed (call_at self.old id) }
         ensures takes { Takes failed self.old id self.new }
@@ -162,7 +164,7 @@ impl ClientState {
         }
     }
 
-    /// Whether a call of this id is due at this moment.
+    /// Returns whether a call of this id is due at this moment.
     pub(crate) fn is_due(&self, id: u64, now: u64) -> bool
         ensures { result ≡ due_at now (call_at self.now id) }
     {
@@ -173,14 +175,14 @@ impl ClientState {
         }
     }
 
-    /// The calls that are due at this moment expire. Takes no memory.
+    /// Expires the calls that are due at this moment.
     pub(crate) fn expire(&mut self, now: u64)
         ensures { Expires self.old now self.new }
     {
         while let Some(_) = self.expire_first(now) {}
     }
 
-    /// The first of the calls that are due at this moment expires.
+    /// Expires the first of the calls that are due at this moment, and returns its id.
     fn expire_first(&mut self, now: u64) -> Option<CallId>
         ensures some { IfSome result (λ id. ExpiresOne self.old now id self.new) }
         ensures none { IfNone result ((self.new ≡ self.old) × (due_ids now self.old.calls ≡ [])) }
@@ -194,7 +196,7 @@ impl ClientState {
         Some(id)
     }
 
-    /// The least moment at which a call expires, if there is one. Takes no memory.
+    /// Returns the least moment at which a call expires, if there is one.
     pub(crate) fn next_deadline(&self) -> Option<u64>
         ensures some { IfSome result (IsDeadline self.now.calls) }
         ensures none { IfNone result ((now : ℕ) → now < 2 ^ 64 → due_ids now self.now.calls ≡ []) }
@@ -203,7 +205,7 @@ impl ClientState {
         u64::try_from(deadline).ok()
     }
 
-    /// The first of the calls that ended and weren't told of yet: none where no call is kept. Takes no memory.
+    /// Takes the first of the calls that ended and weren't reported yet. There is none if no call is kept.
     pub(crate) fn next_ended(&mut self) -> Option<CallId>
         ensures first { self.old.ended ≡ option_to_list result ++ self.new.ended }
         ensures none { IfNone result (self.old.ended ≡ []) }
@@ -213,14 +215,14 @@ impl ClientState {
         self.ended.pop_front()
     }
 
-    /// Whether a call of this id waits.
+    /// Returns whether a call of this id waits.
     fn waits(&self, id: CallId) -> bool
         ensures { result ≡ waits (call_at self.now id) }
     {
         matches!(self.calls.get(id), Some(Call::Waiting(_)))
     }
 
-    /// Ends a waiting call in this way, and lists it as ended. Takes no memory.
+    /// Ends a waiting call in this way, and lists it as ended.
     fn settle(&mut self, id: CallId, call: Call)
         requires waited { waits (call_at self.old id) ≡ true }
         requires ended { waits (Some call) ≡ false }
@@ -235,7 +237,7 @@ impl ClientState {
     }
 }
 
-/// Streams.
+/// The calls on streams.
 impl ClientState {
     /// Keeps a new stream. An `Err` changes nothing.
     pub(crate) fn admit_stream(&mut self, id: StreamId, stream: Stream) -> Result<(), AllocError>
@@ -248,25 +250,27 @@ impl ClientState {
         Ok(())
     }
 
-    /// Takes back the stream that was admitted last. Takes no memory.
+    /// Takes back the stream that was admitted last.
     pub(crate) fn withdraw_stream(&mut self, id: StreamId)
         requires last { self.old.next ≡ id + 2 }
         requires stream { call_at self.old id ≡ None }
-        ensures { (old : Client) → (stream : AStream) → AdmitsStream old id stream self.old → self.new ≡ old }
+        ensures { (old : Client) → (stream : AStream)
+            → AdmitsStream old id stream self.old → self.new ≡ old }
     {
         self.streams.forget(id);
         self.next -= 2;
     }
 
-    /// Refuses what isn't to be sent on a stream.
+    /// Returns `Ok` if items may be sent on a stream, or else the error why not.
     pub(crate) fn check_sendable(&self, alloc: Global, id: StreamId) -> Result<(), Error>
         ensures ok { OnOk result (unsendable (stream_at self.now id) ≡ None) }
-        ensures err { IfErr result (λ told. (error : AnError) × (unsendable (stream_at self.now id) ≡ Some error) × IsTold error told) }
+        ensures err { IfErr result (λ told. (error : AnError)
+            × (unsendable (stream_at self.now id) ≡ Some error) × IsTold error told) }
     {
         self.streams.check_sendable(alloc, id)
     }
 
-    /// The sender of a stream has closed. Takes no memory.
+    /// Marks the sender of a stream as closed.
     pub(crate) fn close(&mut self, id: StreamId)
         ensures own { stream_at self.new id ≡ with_sender ASender.Closed (stream_at self.old id) }
         ensures others { StreamsStay self.old.streams id self.new.streams }
@@ -275,31 +279,33 @@ impl ClientState {
         self.streams.close(id);
     }
 
-    /// Gives the next item of a stream, or why there is none.
+    /// Takes the next item of a stream, or returns why there is none.
     pub(crate) fn recv(
         &mut self,
         alloc: Global,
         id: StreamId,
         failure: &Option<Failure>,
     ) -> Option<Result<Blob, Error>>
-        ensures own { ReceivesAt failure.now (stream_at self.old id) result (stream_at self.new id) }
+        ensures own { ReceivesAt failure.now (stream_at self.old id) result
+            (stream_at self.new id) }
         ensures others { StreamsStay self.old.streams id self.new.streams }
         ensures same { self.new ≡ record self.old { streams = self.new.streams } }
     {
         self.streams.recv(alloc, id, failure)
     }
 
-    /// Nobody receives from a stream any more. Takes no memory.
+    /// Drops the receiver of a stream.
     pub(crate) fn drop_receiver(&mut self, id: StreamId)
         ensures own { stream_at self.new id ≡ without_reader (stream_at self.old id) }
         ensures others { StreamsStay self.old.streams id self.new.streams }
-        ensures same { self.new ≡ record self.old { streams = self.new.streams; heard = remove_key (is_at (nat_cmp id)) self.old.heard } }
+        ensures same { self.new
+            ≡ record self.old { streams = self.new.streams; heard = remove_key (is_at (nat_cmp id)) self.old.heard } }
     {
         self.streams.drop_receiver(id);
         self.heard.remove(&id);
     }
 
-    /// Nobody sends on a stream any more. Takes no memory.
+    /// Drops the sender of a stream.
     pub(crate) fn drop_sender(&mut self, id: StreamId)
         ensures own { stream_at self.new id ≡ without_sender (stream_at self.old id) }
         ensures others { StreamsStay self.old.streams id self.new.streams }
@@ -308,7 +314,7 @@ impl ClientState {
         self.streams.drop_sender(id);
     }
 
-    /// The first of the streams for which something came, and which weren't told of yet. Takes no memory.
+    /// Takes the first of the streams for which something came, and that weren't reported since.
     pub(crate) fn next_heard(&mut self) -> Option<StreamId>
         ensures first { self.old.heard ≡ option_to_list result ++ self.new.heard }
         ensures none { IfNone result (self.old.heard ≡ []) }
@@ -317,12 +323,14 @@ impl ClientState {
         self.heard.pop_first()
     }
 
-    /// Puts a thing into the mailbox of a stream, and lists the stream as one for which something came. An `Err` changes
-    /// nothing.
+    /// Puts a thing into the mailbox of a stream, and lists the stream as one for which something came, if its receiver gets it. An `Err`
+    /// changes nothing.
     fn bring(&mut self, id: StreamId, news: News) -> Result<(), AllocError>
-        ensures own { OnOk result (stream_at self.new id ≡ option_map (with_news news.thing news.ends) (stream_at self.old id)) }
+        ensures own { OnOk result (stream_at self.new id
+            ≡ option_map (with_news news.thing news.ends) (stream_at self.old id)) }
         ensures others { OnOk result (StreamsStay self.old.streams id self.new.streams) }
-        ensures same { OnOk result (self.new ≡ record self.old { streams = self.new.streams; heard = heard_with (stream_at self.old id) id self.old.heard }) }
+        ensures same { OnOk result (self.new
+            ≡ record self.old { streams = self.new.streams; heard = heard_with (stream_at self.old id) id self.old.heard }) }
         ensures err { OnErr result (self.new ≡ self.old) }
     {
         if !self.streams.hears(id) {

@@ -1,4 +1,4 @@
-//! A client's core, to what stands on the streams of either core.
+//! A client's core as a `StreamCore`.
 use crate::client::ClientCore;
 use crate::streams::StreamId;
 use std::alloc::Global;
@@ -17,19 +17,23 @@ impl<O: OutboundTransform + Drop, I: InboundTransform + Drop> StreamCore for Cli
 
     type Id = StreamId;
 
-    ghost sends = { λ old id item ticket new. SendsOn O.OutboundTransform old id 0 item Open ticket new };
+    ghost sends = { λ old id item ticket new. SendsOn O.OutboundTransform old id
+        0 item Open ticket new };
 
     ghost refuses = { λ old id item told. RefusesSending O.OutboundTransform old id 0 item told };
 
-    ghost closes = { λ old id ticket new. SendsOn O.OutboundTransform old id close_flags [] Closed ticket new };
+    ghost closes = { λ old id ticket new. SendsOn O.OutboundTransform old id
+        close_flags [] Closed ticket new };
 
-    ghost refuses_close = { λ old id told. RefusesSending O.OutboundTransform old id close_flags [] told };
+    ghost refuses_close = { λ old id told. RefusesSending O.OutboundTransform old
+        id close_flags [] told };
 
     ghost unsends = { λ old id new. DropsSender old id new };
 
     ghost receives = { λ old id given new. ReceivesOne old id given new };
 
-    ghost tells_sent = { λ c ticket told. TellsSent (is_sent c.connection.outbox.queue ticket) c.connection.failure told };
+    ghost tells_sent = { λ c ticket told. TellsSent (is_sent c.connection.outbox.queue ticket)
+        c.connection.failure told };
 
     ghost unhears = { λ old id new. DropsReceiver old id new };
 

@@ -1,4 +1,4 @@
-//! The streams of a client, found by their ids.
+//! The streams of a client, found by their ids. A function without an `alloc` argument takes no memory, except `open` and `put`.
 ghost use Rattle.std.specs.Prelude.{◌≡◌, [], IfErr, IfSome, IfNone, OnOk, OnErr, None, Some, true, false};
 ghost use Rattle.std.specs.Map.{remove_entry};
 ghost use Rattle.std.specs.BTreeMap.{insert_entry, is_at};
@@ -17,35 +17,35 @@ use ttrpc_connection::{Failure, Mailbox, Receiver, Thing};
 use ttrpc_proto::Error;
 use ttrpc_wire::Blob;
 
-/// The number of a stream: odd, and rising with those of calls.
+/// The id of a stream. Ids are odd, and calls and streams get rising ids together.
 pub type StreamId = u32;
 
-/// What the sender of a stream may do.
+/// The state of a stream's sender.
 #[derive(Clone, Copy, Debug, Drop, PartialEq, Eq)]
 pub enum Sender {
-    /// Send, where the stream was opened for that.
+    /// The sender may send items, if the stream was opened to send them.
     Open,
-    /// Nothing: it has closed.
+    /// The sender has closed, and sends nothing more.
     Closed,
-    /// Nothing: nobody sends any more.
+    /// The sender was dropped, and sends nothing more.
     Dropped,
 }
 
-/// What is kept of a stream.
+/// The state that is kept of a stream.
 #[derive(Debug, Drop)]
 pub struct Stream {
-    /// Whether it was opened to send items.
+    /// True if the stream was opened to send items.
     pub streaming_client: bool,
-    /// Whether it was opened to receive them.
+    /// True if the stream was opened to receive items.
     pub streaming_server: bool,
-    /// What its sender may do.
+    /// The state of the sender.
     pub sender: Sender,
-    /// What came for its receiver.
+    /// The things that came for the receiver.
     pub mailbox: Mailbox,
 }
 
 impl Stream {
-    /// A stream that was just opened. Takes no memory.
+    /// Returns a stream that was just opened. Takes no memory.
     pub fn new(alloc: Global, streaming_client: bool, streaming_server: bool) -> Self
         ensures { result ≡ new_stream streaming_client streaming_server }
     {
@@ -58,7 +58,7 @@ impl Stream {
     }
 }
 
-/// The streams of a client that aren't dropped by both halves.
+/// The streams of a client, without those that have both halves dropped.
 #[derive(Drop)]
 pub struct Streams {
     streams: BTreeMap<StreamId, Stream>,
@@ -74,7 +74,7 @@ impl Model for Streams {
 }
 
 impl Streams {
-    /// No streams. Takes no memory.
+    /// Returns an empty map of streams. Takes no memory.
     pub fn new(alloc: Global) -> Self
         ensures { result ≡ [] }
     {
@@ -96,7 +96,7 @@ impl Streams {
         Ok(())
     }
 
-    /// Keeps nothing of a stream any more. Takes no memory.
+    /// Forgets a stream.
     pub fn forget(&mut self, id: StreamId)
         ensures entries { self.new ≡ remove_entry (is_at (nat_cmp id)) self.old }
         ensures own { stream_in self.new id ≡ None }
@@ -105,10 +105,12 @@ impl Streams {
         let _ = self.streams.remove(&id);
     }
 
-    /// Whether a stream that frames find was opened to receive items: none where they find none. Takes no memory.
+    /// Returns whether the stream of this id was opened to receive items. Returns none if there is no stream, or a frame has ended it.
     pub fn entered(&self, id: StreamId) -> Option<bool>
-        ensures some { IfSome result (λ streaming_server. is_entered (stream_in self.now id) ≡ true) }
-        ensures is { IfSome result (λ streaming_server. IfSome (stream_in self.now id) (λ s. s.streaming_server ≡ streaming_server)) }
+        ensures some { IfSome result
+            (λ streaming_server. is_entered (stream_in self.now id) ≡ true) }
+        ensures is { IfSome result (λ streaming_server. IfSome (stream_in self.now id)
+            (λ s. s.streaming_server ≡ streaming_server)) }
         ensures none { IfNone result (is_entered (stream_in self.now id) ≡ false) }
     {
         let stream = self.streams.get(&id)?;
@@ -118,7 +120,7 @@ impl Streams {
         Some(stream.streaming_server)
     }
 
-    /// Whether a frame under this id brings somebody something. Takes no memory.
+    /// Returns whether a frame under this id brings the stream's receiver something.
     pub fn hears(&self, id: StreamId) -> bool
         ensures { result ≡ hears (stream_in self.now id) }
     {
@@ -130,10 +132,12 @@ impl Streams {
         }
     }
 
-    /// The error with which the stream of this id isn't to be sent on, or `NoMemory` where memory for its text was refused.
+    /// Returns `Ok` if items may be sent on the stream of this id, or else the error why not. The error is `NoMemory` if memory for its
+    /// text was refused.
     pub fn check_sendable(&self, alloc: Global, id: StreamId) -> Result<(), Error>
         ensures ok { OnOk result (unsendable (stream_in self.now id) ≡ None) }
-        ensures err { IfErr result (λ told. (error : AnError) × (unsendable (stream_in self.now id) ≡ Some error) × IsTold error told) }
+        ensures err { IfErr result (λ told. (error : AnError)
+            × (unsendable (stream_in self.now id) ≡ Some error) × IsTold error told) }
     {
         let Some(stream) = self.streams.get(&id) else {
             return Err(unknown_error(alloc));
@@ -147,9 +151,10 @@ impl Streams {
         }
     }
 
-    /// Puts a thing into the mailbox of a stream; `ends` says that it is the last. An `Err` changes nothing.
+    /// Puts a thing into the mailbox of a stream. If `ends` is true it is the last. An `Err` changes nothing.
     pub fn put(&mut self, id: StreamId, thing: Thing, ends: bool) -> Result<(), AllocError>
-        ensures own { OnOk result (stream_in self.new id ≡ option_map (with_news thing ends) (stream_in self.old id)) }
+        ensures own { OnOk result
+            (stream_in self.new id ≡ option_map (with_news thing ends) (stream_in self.old id)) }
         ensures others { StreamsStay self.old id self.new }
         ensures err { OnErr result (self.new ≡ self.old) }
     {
@@ -159,14 +164,15 @@ impl Streams {
         stream.mailbox.put(thing, ends)
     }
 
-    /// Gives the next item of a stream, or why there is none.
+    /// Takes the next item of a stream, or returns why there is none.
     pub fn recv(
         &mut self,
         alloc: Global,
         id: StreamId,
         failure: &Option<Failure>,
     ) -> Option<Result<Blob, Error>>
-        ensures own { ReceivesAt failure.now (stream_in self.old id) result (stream_in self.new id) }
+        ensures own { ReceivesAt failure.now (stream_in self.old id) result
+            (stream_in self.new id) }
         ensures others { StreamsStay self.old id self.new }
     {
         match self.streams.get_mut(&id) {
@@ -175,7 +181,7 @@ impl Streams {
         }
     }
 
-    /// The sender has closed. Takes no memory.
+    /// Marks the sender as closed.
     pub fn close(&mut self, id: StreamId)
         ensures own { stream_in self.new id ≡ with_sender Sender.Closed (stream_in self.old id) }
         ensures others { StreamsStay self.old id self.new }
@@ -185,7 +191,7 @@ impl Streams {
         }
     }
 
-    /// Nobody receives any more. Takes no memory.
+    /// Drops the receiver. If the sender was dropped, too, the stream is forgotten.
     pub fn drop_receiver(&mut self, id: StreamId)
         ensures own { stream_in self.new id ≡ without_reader (stream_in self.old id) }
         ensures others { StreamsStay self.old id self.new }
@@ -200,7 +206,7 @@ impl Streams {
         stream.mailbox.drop_receiver();
     }
 
-    /// Nobody sends any more. Takes no memory.
+    /// Drops the sender. If the receiver was dropped, too, the stream is forgotten.
     pub fn drop_sender(&mut self, id: StreamId)
         ensures own { stream_in self.new id ≡ without_sender (stream_in self.old id) }
         ensures others { StreamsStay self.old id self.new }

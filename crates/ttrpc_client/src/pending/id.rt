@@ -1,4 +1,4 @@
-//! The id of a pending call, which can only be compared, and each comparison of which is counted.
+//! The id of a pending call, which can only be compared. Each comparison is counted.
 ghost use Rattle.std.specs.Prelude.{◌≡◌, ◌+◌};
 ghost use Rattle.std.specs.Ordering.{nat_cmp};
 

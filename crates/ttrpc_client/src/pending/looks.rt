@@ -1,9 +1,9 @@
-//! How many ids were looked at, which contracts alone can tell.
+//! A count of the ids that were looked at, which only contracts see.
 ghost use Rattle.std.specs.Prelude.{◌≡◌, ◌+◌, ℕ};
 
 use std::marker::{Model, PhantomData};
 
-/// A count of looks at ids, for contracts alone. It takes no memory, and its methods do nothing at run time.
+/// A count of looks at ids, for contracts alone. A count takes no memory, and its methods do nothing at run time.
 #[derive(Drop)]
 pub struct Looks {
     marker: PhantomData<u8>,

@@ -1,6 +1,5 @@
-//! Calls that are pending, by rising id, and how many ids a search among them looks at.
-//! The places of calls that ended stay, empty, until more than half are: so a call leaves in about the time of a search,
-//! in whatever order calls end.
+//! The calls that are pending, by rising id, and how many ids a search among them looks at. The places of ended calls stay, empty, until
+//! more than half of all are empty. So a call is removed in about the time of a search, in whatever order calls end.
 ghost use Rattle.std.specs.Prelude.{◌≡◌, ◌↔◌, ◌<◌, ◌≤◌, ◌+◌, ◌*◌, ◌^◌, ℕ, [], ◌∷◌, ◌++◌, length, IsTrue, IfSome, IfNone, IfErr, OnOk, OnErr, option_copied, Some, None, filter};
 ghost use Rattle.std.specs.BTreeMap.{is_at, insert_entry};
 ghost use Rattle.std.specs.Map.{remove_entry};
@@ -19,12 +18,11 @@ use std::marker::Model;
 use std::mem::replace;
 use ttrpc_proto::Result;
 
-/// What is kept of pending calls, by rising id. Contracts see the places, of which some are empty. Only `push_last` takes
-/// memory.
+/// The states of pending calls, by rising id. Contracts see the places, and some of them are empty. Only `push_last` takes memory.
 #[derive(Drop)]
 pub struct Pending<T> {
     places: Vec<(PendingId, Option<T>)>,
-    // How many places aren't empty.
+    // The number of places that aren't empty.
     taken: usize,
 }
 
@@ -39,11 +37,12 @@ impl<T> Model for Pending<T> {
 
     ghost view = { λ p. p.places.items };
 
-    ghost invariant = { λ p. ArePlaces p.places.items × (p.taken ≡ length (entries_in p.places.items)) };
+    ghost invariant = { λ p. ArePlaces p.places.items
+        × (p.taken ≡ length (entries_in p.places.items)) };
 }
 
 impl<T> Pending<T> {
-    /// Returns one without entries.
+    /// Returns a `Pending` without entries.
     pub fn new(alloc: Global) -> Self
         ensures { result ≡ [] }
     {
@@ -62,18 +61,19 @@ impl<T> Pending<T> {
         self.taken
     }
 
-    /// Returns whether there are none.
+    /// Returns whether there are no entries.
     pub fn is_empty(&self) -> bool
         ensures { IsTrue result ↔ (length (entries_in self.now) ≡ 0) }
     {
         self.taken == 0
     }
 
-    /// Finds the place of an id's entry by at most as many looks as the number of places has binary digits.
+    /// Finds the place of an id's entry, with at most as many looks as the number of places has binary digits.
     pub fn find(&self, id: u32, looks: &mut Looks) -> Option<usize>
         ensures some { IfSome result (IsPlaceOf self.now id) }
         ensures none { IfNone result (call_of self.now id ≡ None) }
-        ensures looks { (digits : ℕ) → length self.now < 2 ^ digits → looks.new.count ≤ looks.old.count + digits }
+        ensures looks { (digits : ℕ) → length self.now < 2 ^ digits
+            → looks.new.count ≤ looks.old.count + digits }
     {
         let wanted = PendingId::new(id);
         let mut low = 0;
@@ -91,7 +91,7 @@ impl<T> Pending<T> {
         None
     }
 
-    /// Lends what is kept at a place.
+    /// Lends the call at a place, if there is one.
     pub fn at(&self, place: usize) -> Option<&T>
         ensures { option_copied result ≡ call_there self.now place }
     {
@@ -101,7 +101,7 @@ impl<T> Pending<T> {
         }
     }
 
-    /// Lends what is kept of an id's call.
+    /// Lends the call of an id, if there is one.
     pub fn get(&self, id: u32) -> Option<&T>
         ensures { option_copied result ≡ call_of self.now id }
     {
@@ -109,15 +109,16 @@ impl<T> Pending<T> {
         self.at(place)
     }
 
-    /// Adds an entry behind all others, whose ids are below. An `Err` changes nothing.
+    /// Adds an entry after all others, which have lower ids. An `Err` changes nothing.
     pub fn push_last(&mut self, id: u32, call: T) -> Result<()>
     where
         T: Drop,
         requires { (k : ℕ) → id ≤ k → call_of self.old k ≡ None }
 
-        // It has the last place, and the greatest id.
+        // The entry has the last place, and the greatest id.
         ensures ok { OnOk result (self.new ≡ self.old ++ (id, Some call) ∷ []) }
-        ensures entries { OnOk result (entries_in self.new ≡ insert_entry nat_cmp (entries_in self.old) id call) }
+        ensures entries { OnOk result
+            (entries_in self.new ≡ insert_entry nat_cmp (entries_in self.old) id call) }
         ensures rise { Rise (entries_in self.new) }
 
         // An `Err` changes nothing.
@@ -129,12 +130,13 @@ impl<T> Pending<T> {
         Ok(())
     }
 
-    /// Replaces what is kept of an id's call, and returns what it was: without an entry, nothing changes.
+    /// Replaces the call of an id, and returns the old one. If there is no entry, nothing changes.
     pub fn replace(&mut self, id: u32, call: T) -> Option<T>
     where
         T: Drop,
         ensures was { result ≡ call_of self.old id }
-        ensures entries { IfSome result (λ _. entries_in self.new ≡ insert_entry nat_cmp (entries_in self.old) id call) }
+        ensures entries { IfSome result
+            (λ _. entries_in self.new ≡ insert_entry nat_cmp (entries_in self.old) id call) }
         ensures none { IfNone result (self.new ≡ self.old) }
         ensures rise { Rise (entries_in self.new) }
     {
@@ -143,12 +145,13 @@ impl<T> Pending<T> {
         was
     }
 
-    /// Removes the entry of an id, and returns what was kept.
+    /// Removes the entry of an id, and returns its call.
     pub fn remove(&mut self, id: u32) -> Option<T>
     where
         T: Drop,
         ensures value { result ≡ call_of self.old id }
-        ensures entries { entries_in self.new ≡ remove_entry (is_at (nat_cmp id)) (entries_in self.old) }
+        ensures entries { entries_in self.new
+            ≡ remove_entry (is_at (nat_cmp id)) (entries_in self.old) }
         ensures rise { Rise (entries_in self.new) }
     {
         let place = self.find(id, &mut Looks::new())?;
@@ -159,10 +162,11 @@ impl<T> Pending<T> {
     }
 }
 
-// Takes the empty places out if they are more than half, and else those behind the last entry.
+// Takes out the empty places if they are more than half, and else only those after the last entry.
 fn tidy<T: Drop>(places: &mut Vec<(PendingId, Option<T>)>, taken: usize)
     ensures trimmed { IsTrimmed places.old.items places.new.items }
-    ensures few { taken ≡ length (entries_in places.old.items) → length places.new.items ≤ 2 * taken }
+    ensures few { taken ≡ length (entries_in places.old.items)
+        → length places.new.items ≤ 2 * taken }
 {
     let empty = places.len().saturating_sub(taken);
     if empty > taken {
@@ -172,7 +176,7 @@ fn tidy<T: Drop>(places: &mut Vec<(PendingId, Option<T>)>, taken: usize)
     }
 }
 
-// Takes the empty places behind the last entry out.
+// Takes out the empty places after the last entry.
 fn trim<T: Drop>(places: &mut Vec<(PendingId, Option<T>)>)
     ensures { IsTrimmed places.old.items places.new.items }
 {
@@ -181,7 +185,7 @@ fn trim<T: Drop>(places: &mut Vec<(PendingId, Option<T>)>)
     }
 }
 
-// Whether the last place is empty.
+// Returns whether the last place is empty.
 fn ends_empty<T>(places: &Vec<(PendingId, Option<T>)>) -> bool
     ensures { result ≡ ends_empty places.now.items }
 {

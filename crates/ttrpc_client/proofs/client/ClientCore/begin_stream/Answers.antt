@@ -1,9 +1,10 @@
 use Rattle.ttrpc_client.proofs.Words.{rules}
+use Rattle.ttrpc_secure.specs.Sends.{joined}
 use Rattle.ttrpc_client.specs.Streaming.{IsOpeningFrame}
 use Rattle.ttrpc_client.proofs.Entered.{may_refuse}
 use Rattle.ttrpc_client.proofs.client.ClientCore.begin_stream.Goals as goal
 
 pub returns-in-Err-Failed-clause-refused : goal.returns-in-Err-Failed-clause-refused
 returns-in-Err-Failed-clause-refused g c =
-    may_refuse g.O.OutboundTransform c.args.self.now (IsOpeningFrame c.args.streaming_client c.args.id) c.args.bytes.items c.opening_frame-frame.result c.in-Err-Failed.error c.opening_frame-frame.ensures
+    may_refuse g.O.OutboundTransform c.args.self.now (IsOpeningFrame c.args.streaming_client c.args.id) (joined c.args.parts) c.opening_frame-frame.result c.in-Err-Failed.error c.opening_frame-frame.ensures
     (c.send.ensures.refused c.in-Err-Failed.error (search rules))
