@@ -1,4 +1,4 @@
--- The rule of the table of a shutdown, and what each kind of step does to its holder's seat.
+-- The rule of the table of a shutdown, and how each kind of step changes its holder's seat.
 -- Source: this project's.
 use Rattle.std.specs.Prelude.{◌≡◌, ℕ, ◌%◌, ◌^◌, ◌==◌, Bool, true, false, List, [], ◌∷◌, ◌⊎◌, Option, Some, None}
 use mathlib.Core.Option.{some}
@@ -15,7 +15,7 @@ holder notifies shares knows saw = record { notifies = notifies; shares = shares
 abbrev pub the_notifier : Holder
 the_notifier = holder true false false None
 
--- a waiter whose seat is new: without a share so far, it knows what its parent knows, and has read no count
+-- a waiter with a new seat: without a share so far, it knows what its parent knows, and has read no count
 abbrev pub newcomer : Holder → Holder
 newcomer parent = holder false false parent.knows None
 
@@ -24,14 +24,15 @@ abbrev pub IsLed : List Holder → Type 0
 IsLed [] = ⊥
 IsLed (h ∷ hs) = h.notifies ≡ true
 
--- The holder of a seat, by the flag: it knows only of a flag that is set. A notifier has the first seat and no share, and knows of a flag that is set.
+-- The holder of a seat fits the flag: it knows only of a flag that is set. A notifier has the first seat and no share, and knows of the
+-- flag if it is set.
 pub record Fits (flag seat : ℕ) (h : Holder) : Type 0 where
   pub set : h.knows ≡ true → flag ≡ 1
   pub first : h.notifies ≡ true → seat ≡ 0
   pub no_share : h.notifies ≡ true → h.shares ≡ false
   pub told : h.notifies ≡ true → flag ≡ 1 → h.knows ≡ true
 
--- The rule: the flag is 0 or 1, the count is the sum of the shares as far as a word can tell it, and each seat fits the flag.
+-- The rule: the flag is 0 or 1, the count is the sum of the shares modulo 2^64, and each seat fits the flag.
 pub record IsKept (words : List ℕ) (holders : List Holder) : Type 0 where
   pub flag : ℕ
   pub count : ℕ
@@ -43,45 +44,46 @@ pub record IsKept (words : List ℕ) (holders : List Holder) : Type 0 where
 
 -- ---- the kinds of step: a step of this seat, which found the number n in its word, and the seat after it
 
--- the table has words alone, and nothing lies in it
+-- a table that has only words, without anything else in it
 abbrev pub Counted : Type 0
 Counted = State (Unit {0}) Holder
 
--- a seat at such a table: what it says of its holder, and the slots that it has taken
+-- a seat at such a table: the state of its holder, and the slots that it has taken
 abbrev pub Seated : Type 0
 Seated = Me (Unit {0}) Holder
 
--- what a kind of step may do
+-- a kind of step: the changes that it may make
 abbrev pub Kind : Type 1
 Kind = Step (Unit {0}) → Seated → ℕ → Seated → Type 0
 
--- it has a share from now on
+-- the holder has a share from now on
 abbrev pub Shares : Kind
 Shares step me n after = after ≡ (holder me.0.notifies true me.0.knows me.0.saw, me.1)
 
--- it has no share from now on
+-- the holder has no share from now on
 abbrev pub Leaves : Kind
 Leaves step me n after = after ≡ (holder me.0.notifies false me.0.knows me.0.saw, me.1)
 
--- who sets the flag knows that it is set
+-- a holder that sets the flag knows that it is set
 abbrev pub Sets : Kind
 Sets step me n after = after ≡ (holder me.0.notifies me.0.shares true me.0.saw, me.1)
 
--- Who looks at the flag knows exactly if it is set. Who knew finds it set, and a notifier finds what it knew.
+-- A holder that looks at the flag knows exactly if it is set. A holder that knew of the flag finds it set, and a notifier finds it as it
+-- knew it.
 pub record Looks (step : Step (Unit {0})) (me : Seated) (n : ℕ) (after : Seated) : Type 0 where
   pub seat : after ≡ (holder me.0.notifies me.0.shares (n == 1) me.0.saw, me.1)
   pub again : me.0.knows ≡ true → n ≡ 1
   pub same : me.0.notifies ≡ true → (n == 1) ≡ me.0.knows
 
--- who looks at the count has read this number, and learns nothing of the flag
+-- a holder that looks at the count has read this number, and learns nothing of the flag
 abbrev pub Counts : Kind
 Counts step me n after = after ≡ (holder me.0.notifies me.0.shares me.0.knows (Some n), me.1)
 
--- one of these
+-- one of these kinds of step
 abbrev pub IsStep : Kind
 IsStep step me n after = Shares step me n after ⊎ Leaves step me n after ⊎ Sets step me n after ⊎ Looks step me n after ⊎ Counts step me n after
 
--- the table t is the table s after one step of a seat, whose holder was as me says and then as after says
+-- the table t is the table s after one step of a seat; its holder was `me` before and is `after` now
 pub record Follows (s : Counted) (me after : Seated) (t : Counted) : Type 0 where
   pub seat : ℕ
   pub there : get_elem? s.views seat ≡ some me.0

@@ -1,12 +1,13 @@
 -- The two words of a shutdown: a flag and a count.
--- A waiter holds one share from when it is made until it is dropped, the notifier none. The count is the sum of all shares. The flag is set by the notifier's `shutdown` or drop, by nothing else, and never cleared.
+-- A waiter holds one share from when it is made until it is dropped, and the notifier holds none. The count is the sum of all shares. The
+-- flag is set by the notifier's `shutdown` or drop, by nothing else, and never cleared.
 -- Source: the Rust crate's shutdown; what a holder knows is this project's.
 use Rattle.std.specs.Prelude.{◌≡◌, ℕ, ◌+◌, ◌<◌, ◌^◌, Bool, true, false, List, [], ◌∷◌}
 use mathlib.Core.Option.{some}
 use lib.ListN.{get_elem?}
 use Rattle.ttrpc_shutdown.specs.declared.rule.Holder.{Holder}
 
--- 1 where it is true, and 0 where it is false
+-- 1 for true, and 0 for false
 abbrev pub one_if : Bool → ℕ
 one_if true = 1
 one_if false = 0
@@ -16,12 +17,13 @@ abbrev pub shares_of : List Holder → ℕ
 shares_of [] = 0
 shares_of (h ∷ hs) = one_if h.shares + shares_of hs
 
--- This is a waiter, and knows of no shutdown of which the notifier doesn't know.
+-- The holder is a waiter. It knows of a shutdown only if the notifier knows of it.
 pub record IsWaiterOf (notifier h : Holder) : Type 0 where
   pub waits : h.notifies ≡ false
   pub knows : h.knows ≡ true → notifier.knows ≡ true
 
--- The words where these hold seats: the first is the notifier, without a share, and each other a waiter. The flag is set exactly if the notifier knows, and the count is the sum of all shares, where a word has room for it.
+-- The words of a table with these holders of its seats: the first is the notifier, without a share, and each other is a waiter. The flag is
+-- set exactly if the notifier knows, and the count is the sum of all shares, if a word has room for it.
 pub record ShutdownWords (words : List ℕ) (holders : List Holder) : Type 0 where
   pub notifier : Holder
   pub others : List Holder

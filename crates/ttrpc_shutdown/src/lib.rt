@@ -1,6 +1,6 @@
-//! A shutdown that threads share: a flag that a notifier sets, and a count of the waiters that are left. Flag and count
-//! are two words of a table, and each notifier and waiter has a seat at it. What holds of the words and the seats between
-//! any two steps, in whatever order the threads take them, is the rule of the table.
+//! A shutdown that threads share: a flag that a notifier sets, and a count of the waiters that are left. The flag and the count are two
+//! words of a table, and each notifier and waiter has a seat at it. The table's rule relates the words and the seats between any two steps,
+//! in whatever order the threads take them.
 #![tactic(auto)]
 
 pub mod laws;

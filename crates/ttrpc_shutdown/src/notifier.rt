@@ -13,8 +13,8 @@ use std::time::{Clock, Duration};
 use ttrpc_proto::{Error, Result};
 use ttrpc_wire::Text;
 
-/// Sets the flag, by `shutdown` or as it is dropped, and counts the waiters. Nothing else sets the flag, and nothing
-/// clears it.
+/// The side that sets the flag, by `shutdown` or when it is dropped, and counts the waiters. Nothing else sets the
+/// flag, and nothing clears it.
 pub struct Notifier {
     post: Post,
     wait_time: Option<Duration>,
@@ -26,12 +26,14 @@ impl Model for Notifier {
 
     ghost Value = { Notifying };
 
-    ghost view = { λ n. record { table = n.post.table; knows = n.post.holder.knows; wait_time = n.wait_time; saw = n.post.holder.saw } };
+    ghost view = { λ n.
+        record { table = n.post.table; knows = n.post.holder.knows; wait_time = n.wait_time; saw = n.post.holder.saw } };
 
     ghost invariant = { λ n. (n.post.holder.notifies ≡ true) × (n.post.holder.shares ≡ false) };
 }
 
-/// A notifier and its first waiter. The notifier waits for its waiters without limit. The only error is `NoMemory`.
+/// Makes a notifier and its first waiter. The notifier waits for its waiters without limit. The only error is
+/// `NoMemory`.
 pub fn new(alloc: Global) -> Result<(Notifier, Waiter)>
     ensures table { IfOk result (λ r. r.1.table ≡ r.0.table) }
     ensures knows { IfOk result (λ r. (r.0.knows ≡ false) × (r.1.knows ≡ false)) }
@@ -41,7 +43,8 @@ pub fn new(alloc: Global) -> Result<(Notifier, Waiter)>
     pair(alloc, None)
 }
 
-/// A notifier that waits for its waiters no longer than this, and its first waiter. The only error is `NoMemory`.
+/// Makes a notifier that waits for its waiters no longer than `wait_time`, and its first waiter. The only error is
+/// `NoMemory`.
 pub fn with_timeout(alloc: Global, wait_time: Duration) -> Result<(Notifier, Waiter)>
     ensures table { IfOk result (λ r. r.1.table ≡ r.0.table) }
     ensures knows { IfOk result (λ r. (r.0.knows ≡ false) × (r.1.knows ≡ false)) }
@@ -64,7 +67,7 @@ fn pair(alloc: Global, wait_time: Option<Duration>) -> Result<(Notifier, Waiter)
 }
 
 impl Notifier {
-    /// Whether the flag is set: whether `shutdown` was called.
+    /// Returns whether the flag is set, that is whether `shutdown` was called.
     pub fn is_shutdown(&mut self) -> bool
         ensures answer { result ≡ self.old.knows }
         ensures same { self.new ≡ self.old }
@@ -79,28 +82,29 @@ impl Notifier {
         self.post.set();
     }
 
-    /// The number of waiters at this moment. It is exact below 2^64 waiters.
+    /// Returns the number of waiters at this moment. It is exact below 2^64 waiters.
     pub fn waiters(&mut self) -> u64
         ensures { self.new ≡ record self.old { saw = Some result } }
     {
         self.post.count()
     }
 
-    /// One more waiter, which knows of the shutdown if this notifier does. The only error is `NoMemory`, and it changes
-    /// nothing.
+    /// Makes one more waiter, which knows of the shutdown if this notifier does. The only error is `NoMemory`, and it
+    /// changes nothing.
     pub fn subscribe(&mut self) -> Result<Waiter>
-        ensures waiter { IfOk result (λ w. (w.table ≡ self.old.table) × (w.knows ≡ self.old.knows)) }
+        ensures waiter { IfOk result
+            (λ w. (w.table ≡ self.old.table) × (w.knows ≡ self.old.knows)) }
         ensures same { self.new ≡ self.old }
         ensures only_memory { IfErr result (λ e. e ≡ Error.NoMemory) }
     {
         Ok(Waiter::at(self.post.beside()?))
     }
 
-    /// Waits until no waiter is left, for no longer than the time that the notifier was made with, behind which it
-    /// answers `Others("waiters are left")`. Other errors are that of a clock that can't be read, and `NoMemory` where
+    /// Waits until no waiter is left. If the notifier was made with a time limit, waits no longer than that, and then
+    /// returns `Others("waiters are left")`. Other errors are that of a clock that can't be read, and `NoMemory` if
     /// memory for that text was refused.
     pub fn wait_all_exit<X: Wait + Clock>(&mut self, rt: &X, alloc: Global) -> Result<()>
-        // What it read last decides: no waiter, or waiters that are left.
+        // The count that was read last decides: no waiter, or waiters that are left.
         ensures ok { OnOk result (self.new.saw ≡ Some 0) }
         ensures err { IfErr result (λ e. IsWaitFailure self.old.wait_time self.new.saw e) }
         ensures rest { self.new ≡ record self.old { saw = self.new.saw } }
@@ -112,16 +116,17 @@ impl Notifier {
         wait_within(rt, alloc, || rt.monotonic(), &mut self.post, limit)
     }
 
-    /// The end of a shutdown that took its waiters back: reads the count once. If that is the number of these waiters,
-    /// `Ok` has it, and whether the flag is set. Otherwise all are given back with the count that was read. The waiters
-    /// must be this notifier's.
+    /// Ends a shutdown that took its waiters back: reads the count once. If the count is the number of these waiters,
+    /// `Ok` has the count, and whether the flag is set. Otherwise all are given back with the count that was read. The
+    /// waiters must be this notifier's.
     pub fn gather(
         mut self,
         waiters: Vec<Waiter>,
     ) -> std::result::Result<(u64, bool), (u64, Notifier, Vec<Waiter>)>
         requires theirs { All (λ w. w.table ≡ self.table) waiters.items }
         ensures ok { IfOk result (λ r. (r.0 ≡ vec_len waiters) × (r.1 ≡ self.knows)) }
-        ensures err { IfErr result (λ r. (r.0 ≢ vec_len waiters) × (r.1 ≡ record self { saw = Some r.0 }) × (r.2 ≡ waiters)) }
+        ensures err { IfErr result (λ r. (r.0 ≢ vec_len waiters)
+            × (r.1 ≡ record self { saw = Some r.0 }) × (r.2 ≡ waiters)) }
     {
         let count = self.waiters();
         if count == waiters.len() as u64 {
@@ -157,7 +162,7 @@ fn wait_for_ever<X: Wait>(rt: &X, post: &mut Post)
     unreachable!()
 }
 
-// Waits until the count is 0, for no longer than this by the clock that `read` reads.
+// Waits until the count is 0, for no longer than `limit` by the clock that `read` reads.
 fn wait_within<X: Wait, F: Fn() -> io::Result<Duration>>(
     rt: &X,
     alloc: Global,
@@ -167,7 +172,8 @@ fn wait_within<X: Wait, F: Fn() -> io::Result<Duration>>(
 ) -> Result<()>
     requires { F.IsAlwaysCallable read }
     ensures ok { OnOk result (post.new.holder.saw ≡ Some 0) }
-    ensures err { IfErr result (λ e. TellsWait (λ reading. F.post read reading) limit post.new.holder.saw e) }
+    ensures err { IfErr result
+        (λ e. TellsWait (λ reading. F.post read reading) limit post.new.holder.saw e) }
     ensures rest { post.new ≡ having_read post.old post.new.holder.saw }
 {
     match wait_for(rt, read, post, limit) {
@@ -177,7 +183,7 @@ fn wait_within<X: Wait, F: Fn() -> io::Result<Duration>>(
     }
 }
 
-// Waits as above. Returns whether the count was 0 when it was read last.
+// Waits as `wait_within` does. Returns whether the count was 0 when it was read last.
 fn wait_for<X: Wait, F: Fn() -> io::Result<Duration>>(
     rt: &X,
     read: F,

@@ -1,4 +1,4 @@
-//! A holder's seat at the table of its shutdown, and the steps that it takes.
+//! A holder's seat at the table of its shutdown, and the steps that the holder takes.
 ghost use Rattle.std.specs.Prelude.{◌≡◌, ◌==◌, true, false, IfOk, None, Some};
 ghost use Rattle.ttrpc_shutdown.specs.Holding.{MayLeave, having_read, place};
 ghost use Rattle.ttrpc_shutdown.specs.Rule.{holder, the_notifier};
@@ -12,8 +12,8 @@ use std::marker::Model;
 use std::sync::{Arc, Wait};
 use std::time::Duration;
 
-/// A seat at a table. It isn't dropped by itself, but is given up by `leave`, which asks that its holder has no share
-/// and, as the notifier, has set the flag.
+/// A seat at a table. It isn't dropped by itself, but is given up by `leave`. Its holder must have no share then and,
+/// if it is the notifier, must have set the flag.
 pub(crate) struct Post {
     table: Arc<Words, Global>,
     seat: Seat<(), Holder>,
@@ -34,7 +34,7 @@ impl Model for Post {
 }
 
 impl Post {
-    /// The notifier's seat at a new table, whose flag isn't set and whose count is 0.
+    /// Makes the notifier's seat at a new table, with a flag that isn't set and a count of 0.
     pub(crate) fn first(alloc: Global) -> Result<Post, AllocError>
         ensures { IfOk result (λ p. p.holder ≡ the_notifier) }
     {
@@ -43,9 +43,10 @@ impl Post {
         Ok(Post { table, seat })
     }
 
-    /// A waiter's seat beside this one, with a share. It knows what this one knows.
+    /// Makes a waiter's seat beside this one, with a share. Its holder knows what this seat's holder knows.
     pub(crate) fn beside(&mut self) -> Result<Post, AllocError>
-        ensures waiter { IfOk result (λ p. p ≡ place self.old.table (holder false true self.old.holder.knows None)) }
+        ensures waiter { IfOk result
+            (λ p. p ≡ place self.old.table (holder false true self.old.holder.knows None)) }
         ensures same { self.new ≡ self.old }
     {
         let table = Arc::try_clone(&self.table)?;
@@ -54,26 +55,28 @@ impl Post {
         Ok(Post { table, seat })
     }
 
-    /// Whether the flag is set.
+    /// Returns whether the flag is set.
     pub(crate) fn is_set(&mut self) -> bool
-        ensures answer { self.new ≡ place self.old.table (holder self.old.holder.notifies self.old.holder.shares result self.old.holder.saw) }
+        ensures answer { self.new ≡ place self.old.table
+            (holder self.old.holder.notifies self.old.holder.shares result self.old.holder.saw) }
         ensures again { self.old.holder.knows ≡ true → result ≡ true }
         ensures notifier { self.old.holder.notifies ≡ true → result ≡ self.old.holder.knows }
     {
         self.table.shared.load::<Looking>(&mut self.seat, FLAG) == 1
     }
 
-    /// The number of shares. The seat says from now on that its holder has read it.
+    /// Returns the number of shares. From now on the seat says that its holder has read this number.
     pub(crate) fn count(&mut self) -> u64
         ensures { self.new ≡ having_read self.old (Some result) }
     {
         self.table.shared.load::<Counting>(&mut self.seat, COUNT)
     }
 
-    /// The notifier sets the flag. Whoever sleeps until it is set wakes.
+    /// Sets the flag, as the notifier. Threads that sleep until it is set wake.
     pub(crate) fn set(&mut self)
         requires { self.old.holder.notifies ≡ true }
-        ensures { self.new ≡ place self.old.table (holder true self.old.holder.shares true self.old.holder.saw) }
+        ensures { self.new
+            ≡ place self.old.table (holder true self.old.holder.shares true self.old.holder.saw) }
     {
         let words = &self.table.shared;
         if words.swap::<Setting>(&mut self.seat, FLAG, 1) == 0 {
@@ -81,10 +84,11 @@ impl Post {
         }
     }
 
-    /// A waiter gives its share back. If it was the last one, whoever sleeps until none is left wakes.
+    /// Gives back a waiter's share. If it was the last one, threads that sleep until none is left wake.
     pub(crate) fn give_back(&mut self)
         requires { (self.old.holder.notifies ≡ false) × (self.old.holder.shares ≡ true) }
-        ensures { self.new ≡ place self.old.table (holder false false self.old.holder.knows self.old.holder.saw) }
+        ensures { self.new
+            ≡ place self.old.table (holder false false self.old.holder.knows self.old.holder.saw) }
     {
         let words = &self.table.shared;
         if words.fetch_sub::<Leaving>(&mut self.seat, COUNT, 1) == 1 {
@@ -92,24 +96,24 @@ impl Post {
         }
     }
 
-    /// Gives the seat up.
+    /// Gives up the seat.
     pub(crate) fn leave(self)
         requires { MayLeave self.holder }
     {
         let Post { table: _, seat: _ } = self;
     }
 
-    /// Sleeps while the flag isn't set. It may also return for no reason.
+    /// Sleeps while the flag isn't set. The call may also return for no reason.
     pub(crate) fn sleep_until_set<X: Wait>(&self, rt: &X) {
         self.table.shared.park(rt, FLAG, 0);
     }
 
-    /// Sleeps while the count is this number, and until it is 0. It may also return for no reason.
+    /// Sleeps while the count is this number, and until it is 0. The call may also return for no reason.
     pub(crate) fn sleep_at<X: Wait>(&self, rt: &X, count: u64) {
         self.table.shared.park(rt, COUNT, low_half(count));
     }
 
-    /// The same, for no longer than a duration.
+    /// Sleeps as `sleep_at` does, for no longer than `limit`.
     pub(crate) fn sleep_at_for<X: Wait>(&self, rt: &X, count: u64, limit: Duration) {
         self.table
             .shared
@@ -117,7 +121,7 @@ impl Post {
     }
 }
 
-// A sleep compares the lower half of a word.
+// A sleep compares only the lower half of a word.
 fn low_half(word: u64) -> u32 {
     (word & 0xffff_ffff) as u32
 }

@@ -1,16 +1,17 @@
-//! The rule of the table, and what its steps tell their holder.
+//! The rule of the table, and the knowledge that its steps give to their holder.
 use atomic_table::{Play, Split, Table, TableRule};
 use std::alloc::Global;
 
-/// What a seat says of its holder. It is for contracts: no value of it is made.
+/// The state of a holder, as its seat records it. The type is only for contracts: no value of it is
+/// made.
 pub struct Holder {
-    /// It is the notifier, and not a waiter.
+    /// True for the notifier, and false for a waiter.
     pub notifies: bool,
-    /// It has a share in the count.
+    /// True if the holder has a share in the count.
     pub shares: bool,
-    /// It knows that the flag is set.
+    /// True if the holder knows that the flag is set.
     pub knows: bool,
-    /// The count that it read last, where it has read it.
+    /// The count read last, if any.
     pub saw: Option<u64>,
 }
 
@@ -28,13 +29,13 @@ impl TableRule<(), Holder, ()> for Counters {
 /// The table of a shutdown.
 pub(crate) type Words = Table<(), Holder, (), Counters, Global>;
 
-/// The word that is 1 where the flag is set, and 0 where it isn't.
+/// The word that is 1 if the flag is set, and 0 if it isn't.
 pub(crate) const FLAG: usize = 0;
 
 /// The word with the number of shares.
 pub(crate) const COUNT: usize = 1;
 
-/// A new waiter takes a share.
+/// The step of a new waiter that takes a share.
 pub(crate) struct Sharing;
 
 impl Play<(), Holder> for Sharing {
@@ -43,7 +44,7 @@ impl Play<(), Holder> for Sharing {
     ghost then = { Shares };
 }
 
-/// A waiter gives its share back.
+/// The step of a waiter that gives its share back.
 pub(crate) struct Leaving;
 
 impl Play<(), Holder> for Leaving {
@@ -52,7 +53,7 @@ impl Play<(), Holder> for Leaving {
     ghost then = { Leaves };
 }
 
-/// The notifier sets the flag.
+/// The step of the notifier that sets the flag.
 pub(crate) struct Setting;
 
 impl Play<(), Holder> for Setting {
@@ -61,7 +62,7 @@ impl Play<(), Holder> for Setting {
     ghost then = { Sets };
 }
 
-/// A holder looks at the flag.
+/// The step of a holder that looks at the flag.
 pub(crate) struct Looking;
 
 impl Play<(), Holder> for Looking {
@@ -70,7 +71,7 @@ impl Play<(), Holder> for Looking {
     ghost then = { Looks };
 }
 
-/// A holder looks at the count.
+/// The step of a holder that looks at the count.
 pub(crate) struct Counting;
 
 impl Play<(), Holder> for Counting {
@@ -79,7 +80,8 @@ impl Play<(), Holder> for Counting {
     ghost then = { Counts };
 }
 
-/// A new seat is that of a waiter without a share, which knows what its parent knows.
+/// The split that makes a new seat: that of a waiter without a share, which knows what its parent
+/// knows.
 pub(crate) struct Parting;
 
 impl Split<Holder> for Parting {

@@ -1,4 +1,4 @@
-//! The side that is told of a shutdown.
+//! The side that learns of a shutdown.
 ghost use Rattle.std.specs.Prelude.{◌≡◌, true, false, IfOk, IfErr};
 ghost use Rattle.ttrpc_proto.specs.declared.error.Error.{Error};
 ghost use Rattle.ttrpc_shutdown.specs.Rule.{holder};
@@ -8,7 +8,7 @@ use std::marker::Model;
 use std::sync::Wait;
 use ttrpc_proto::Result;
 
-/// Looks at the flag, and has a share in the count from when it is made until it is dropped.
+/// The side that looks at the flag. It has a share in the count from when it is made until it is dropped.
 pub struct Waiter {
     post: Post,
 }
@@ -25,7 +25,7 @@ impl Model for Waiter {
 }
 
 impl Waiter {
-    // The waiter in a seat with a share.
+    // Makes the waiter in a seat with a share.
     pub(crate) fn at(post: Post) -> Waiter
         requires { (post.holder.notifies ≡ false) × (post.holder.shares ≡ true) }
         ensures { result ≡ record { table = post.table; knows = post.holder.knows } }
@@ -33,8 +33,8 @@ impl Waiter {
         Waiter { post }
     }
 
-    /// Whether the flag is set. From then on the waiter knows what was answered, and who knows of a shutdown goes on
-    /// knowing of it.
+    /// Returns whether the flag is set. From then on the waiter knows the answer. A waiter that knows of a shutdown
+    /// goes on knowing of it.
     pub fn is_shutdown(&mut self) -> bool
         ensures answer { self.new ≡ record { table = self.old.table; knows = result } }
         ensures again { self.old.knows ≡ true → result ≡ true }
@@ -55,7 +55,7 @@ impl Waiter {
         unreachable!()
     }
 
-    /// One more waiter, which knows what this one knows. The only error is `NoMemory`, and it changes nothing.
+    /// Makes one more waiter, which knows what this waiter knows. The only error is `NoMemory`, and it changes nothing.
     pub fn clone(&mut self) -> Result<Waiter>
         ensures ok { IfOk result (λ w. w ≡ self.old) }
         ensures same { self.new ≡ self.old }
@@ -78,7 +78,7 @@ mod tests {
     use crate::new;
     use std::test::Fail;
 
-    /// The count stays where the notifier is gone. Only a seat can still read it.
+    /// The count stays after the notifier is gone. Only a seat can still read it.
     #[test]
     fn the_count_outlives_the_notifier(rt: HostRuntime) -> Result<(), Fail> {
         let (mut notifier, mut first) = new(rt.alloc())?;

@@ -1,4 +1,4 @@
--- What the loops do, over bytes that may be known.
+-- The meaning of the loops, over bytes that may be known.
 -- Source: this project's.
 use Rattle.std.specs.Prelude.{◌≡◌, ◌≢◌, ◌⊎◌, ◌+◌, ◌<◌, ◌≤◌, ℕ, List, [], ◌∷◌, length, ◌++◌, All, Option, None, Some, ⊤}
 use Rattle.std.specs.Io.KnownBytes.{Appends, Consumes}
@@ -7,7 +7,7 @@ use Rattle.ttrpc_proto.specs.Framing.Streams.{Answered, Moved, Failed, Called, O
 use Rattle.ttrpc_sync.specs.declared.ports.PortState.{PortState}
 use Rattle.ttrpc_sync.specs.declared.ports.PortState.TheVariants.{Open, Ended, Broke, Stopped}
 
--- The port took what the reader gave, in order, but for a rest that is no longer than one piece.
+-- The port took the bytes that the reader gave, in order, except for a rest that is no longer than one piece.
 pub record Handed (piece : ℕ) (before after old new : Option (List ℕ)) : Type 0 where
   pub bytes : List ℕ
   pub rest : List ℕ
@@ -15,62 +15,65 @@ pub record Handed (piece : ℕ) (before after old new : Option (List ℕ)) : Typ
   pub read : Consumes before after (bytes ++ rest)
   pub taken : Appends old new bytes
 
--- The port took all that the reader gave, in order.
+-- The port took all bytes that the reader gave, in order.
 pub record HandedAll (before after old new : Option (List ℕ)) : Type 0 where
   pub bytes : List ℕ
   pub read : Consumes before after bytes
   pub taken : Appends old new bytes
 
--- What the writer took is what was reported, in order.
+-- The bytes that the writer took are the bytes that were reported, in order.
 pub record Written (before after old new : Option (List ℕ)) : Type 0 where
   pub bytes : List ℕ
   pub written : Appends before after bytes
   pub told : Appends old new bytes
 
--- What a port tells: the bytes that were reported to it, and those that wait.
+-- The record of a port: the bytes that were reported to it, and the bytes that wait.
 pub record Told : Type 0 where
   pub reported : List ℕ
   pub waiting : List ℕ
 
--- The bytes that were reported to a port, where it tells them.
+-- The bytes that were reported to a port, if it records them.
 abbrev pub reported : Option Told → Option (List ℕ)
 reported None = None
 reported (Some t) = Some t.reported
 
--- The bytes that wait at a port, and none where it doesn't tell them.
+-- The bytes that wait at a port, and none if it doesn't record them.
 abbrev pub waiting : Option Told → List ℕ
 waiting None = []
 waiting (Some t) = t.waiting
 
--- By this last answer of its reader a loop ends with this state: the end where it gave nothing, and a break where it failed, with the error's kind.
+-- By this last answer of its reader a loop ends with this state. The state is the end if the reader gave nothing, and a break with the
+-- error's kind if it failed.
 abbrev pub EndsReading : Answered → PortState → Type 0
 EndsReading a Open = ⊥
 EndsReading a Ended = a ≡ Moved 0
 EndsReading a (Broke k) = a ≡ Failed k
 EndsReading a Stopped = ⊤
 
--- By this last answer of its writer a loop ends with this state: a break where it failed, with the error's kind, or where it took nothing, and at its port's state where it was flushed just before.
+-- By this last answer of its writer a loop ends with this state. The state is a break if the writer failed, with the error's kind, or if it
+-- took nothing. If the writer was flushed just before, the state is the port's.
 abbrev pub EndsWriting : Answered → PortState → Type 0
 EndsWriting a Open = ⊥
 EndsWriting a Ended = ⊥
 EndsWriting a (Broke k) = (a ≡ Failed k) ⊎ ((a ≡ Moved 0) × (k ≡ WriteZero))
 EndsWriting a Stopped = a ≡ Moved 0
 
--- A call of a writer behind which a loop goes on: it took some bytes, it was flushed, or it was interrupted.
+-- A call of a writer after which a loop goes on: the writer took some bytes, was flushed, or was interrupted.
 abbrev pub GoesOn : Called → Type 0
 GoesOn (Offered bytes (Moved n)) = 0 < n
 GoesOn (Offered bytes (Failed k)) = k ≡ Interrupted
 GoesOn (Flushed (Moved n)) = ⊤
 GoesOn (Flushed (Failed k)) = k ≡ Interrupted
 
--- A call of a writer behind which a loop ends with this state: a break where it failed or took nothing, and at its port's state where it was flushed.
+-- A call of a writer after which a loop ends with this state: a break if the writer failed or took nothing, and the port's state if it was
+-- flushed.
 abbrev pub EndsAt : Called → PortState → Type 0
 EndsAt (Offered bytes (Moved n)) state = (n ≡ 0) × (state ≡ Broke WriteZero)
 EndsAt (Offered bytes (Failed k)) state = (k ≢ Interrupted) × (state ≡ Broke k)
 EndsAt (Flushed (Moved n)) state = state ≡ Stopped
 EndsAt (Flushed (Failed k)) state = (k ≢ Interrupted) × (state ≡ Broke k)
 
--- These are the calls of a writer by a loop that ended with this state: it ended at the last one, and at none before.
+-- The calls of a writer by a loop that ended with this state: the loop ended at the last call, and at none before.
 pub record WritesUntil (state : PortState) (calls : List Called) : Type 0 where
   pub before : List Called
   pub last : Called

@@ -1,36 +1,36 @@
--- Whose turn it is to write.
+-- The turn to write.
 -- Source: this project's.
 use Rattle.std.specs.Prelude.{Bool, true, false, if◌then◌else◌}
 use Rattle.ttrpc_sync.specs.declared.ends.turn.Turn.{Turn}
 use Rattle.ttrpc_sync.specs.declared.ends.turn.Next.{Next}
 use Rattle.ttrpc_sync.specs.declared.ends.turn.Next.TheVariants.{Writes, Leaves, Sleeps}
 
--- Bytes wait, and nobody else has the turn.
+-- Bytes wait, and no other thread has the turn.
 abbrev pub may_write : (is_taken has_turn bytes_wait : Bool) → Bool
 may_write is_taken has_turn bytes_wait = if bytes_wait then (if has_turn then true else (if is_taken then false else true)) else false
 
--- what a writer does that finds nothing lent
+-- the next action of a writer when nothing is lent
 abbrev pub next_of : (is_taken has_turn stays bytes_wait : Bool) → Next
 next_of is_taken has_turn stays bytes_wait = if may_write is_taken has_turn bytes_wait then Writes else (if stays then Sleeps else Leaves)
 
--- and the turn then: it has it, or has given it back
+-- the turn after that action: the writer has it, or has given it back
 abbrev pub turn_after : Turn → (has_turn stays bytes_wait : Bool) → Turn
 turn_after t has_turn stays bytes_wait =
     if may_write t.is_taken has_turn bytes_wait then record t { is_taken = true } else
     record { is_taken = if has_turn then false else t.is_taken; sleeps = if stays then true else t.sleeps }
 
--- Who gives the turn back wakes the writer thread where bytes wait and it sleeps.
+-- A thread that gives the turn back wakes the writer thread if bytes wait and the writer thread sleeps.
 abbrev pub wakes_behind : Turn → (bytes_wait : Bool) → Bool
 wakes_behind t bytes_wait = if bytes_wait then t.sleeps else false
 
--- and the turn then: nobody's, and of the thread that is woken known that it was
+-- the turn after it was given back: free; if the writer thread is woken, it no longer counts as asleep
 abbrev pub given_back : Turn → (bytes_wait : Bool) → Turn
 given_back t bytes_wait = record { is_taken = false; sleeps = if bytes_wait then false else t.sleeps }
 
--- Whether the writer thread is woken if something is there for it: it sleeps, and nobody has the turn.
+-- The writer thread is woken if it is wanted, it sleeps, and no thread has the turn.
 abbrev pub wakes_writer : Turn → (is_wanted : Bool) → Bool
 wakes_writer t is_wanted = if is_wanted then (if t.is_taken then false else t.sleeps) else false
 
--- and the turn then: of the thread that is woken known that it was
+-- the turn afterwards: if the writer thread is woken, it no longer counts as asleep
 abbrev pub turn_waking : Turn → (is_wanted : Bool) → Turn
 turn_waking t is_wanted = if is_wanted then record t { sleeps = if t.is_taken then t.sleeps else false } else t

@@ -1,4 +1,4 @@
-//! A writer that keeps bytes back, so that a whole frame, or a batch of short ones, goes out by one write.
+//! A writer that buffers bytes, so that a whole frame, or a batch of short frames, goes out by one write.
 ghost use Rattle.std.specs.Prelude.{◌≡◌, ◌+◌, ◌-◌, ◌^◌, ◌≤◌, ◌⊎◌, [], length, take, drop, min, IfErr, OnOk};
 ghost use Rattle.std.specs.Io.{WritesAtMost};
 ghost use Rattle.std.specs.Io.KnownBytes.{Appends, Keeps, WriteAppends, append_known};
@@ -10,25 +10,24 @@ use std::io::{self, ErrorKind};
 use std::marker::Model;
 use ttrpc_proto::{MESSAGE_HEADER_LENGTH, MESSAGE_LENGTH_MAX, Sink};
 
-/// How many bytes a gathering writer keeps at most: one frame of the greatest length, with its header.
+/// The most bytes that a gathering writer keeps: one frame of the greatest length, with its header.
 pub const GATHER_LIMIT: usize = MESSAGE_HEADER_LENGTH + MESSAGE_LENGTH_MAX;
 
-/// How many it keeps where each write goes out at once: a longer frame leaves in parts, which the other side reads while
-/// the next is copied. Beside half of 64 KiB there is room for a header and names, so that a payload of so many bytes leaves
-/// in whole parts, and not with a part of a few bytes behind them.
+/// The most bytes that are kept when each write goes out at once. A longer frame leaves in parts, and the other side reads one part while
+/// the next is copied. The limit is half of 64 KiB, plus room for a header and names. So a payload of 64 KiB leaves in two parts, without a
+/// third part of a few bytes.
 pub const PART_LIMIT: usize = 33792;
 
-/// How many a thread keeps that writes what it queued itself, where each write goes out at once: a longer loan goes to the
-/// writer as it is, so its bytes are copied once less.
+/// The most bytes kept by a thread that writes its own frame, when each write goes out at once. A longer loan goes to the writer directly,
+/// so its bytes are copied once less.
 pub const SHORT_LIMIT: usize = 16384;
 
-/// How many bytes' room it has at most behind a flush, so that a connection at rest doesn't hold the room of its longest
-/// frame.
+/// The most room that is kept after a flush, in bytes, so that an idle connection doesn't hold the room of its longest frame.
 pub const ROOM_AT_REST: usize = 65536;
 
-/// Keeps the bytes that are written to it, and writes them to its writer at a flush, or where there is no room for more.
-/// What the writer doesn't take is still kept. Bytes for which memory is refused are offered to the writer itself, once
-/// it has taken all that was kept, so nothing is lost or overtaken. Bytes that are kept when it is dropped are lost.
+/// Keeps the bytes that are written to it, and writes them to its writer at a flush, or when there is no room for more. Bytes that the
+/// writer doesn't take are still kept. If memory for bytes is refused, they are offered to the writer directly after it has taken all bytes
+/// that were kept. So nothing is lost or overtaken. Bytes that are kept when the `Gather` is dropped are lost.
 #[derive(Drop)]
 pub struct Gather<W> {
     alloc: Global,
@@ -56,14 +55,14 @@ impl<W> Model for Gather<W> {
 }
 
 impl<W> Gather<W> {
-    /// A gathering writer in front of this one, which keeps nothing yet, and a whole frame at most. Takes no memory.
+    /// Makes a gathering writer in front of `writer`. It keeps nothing yet, and at most a whole frame. Takes no memory.
     pub fn new(alloc: Global, writer: W) -> Gather<W>
         ensures { IsNewGather GATHER_LIMIT writer result }
     {
         Gather::with_limit(alloc, writer, GATHER_LIMIT)
     }
 
-    /// The same, which keeps so many bytes at most.
+    /// Makes a gathering writer in front of `writer` that keeps at most `limit` bytes. Takes no memory.
     pub fn with_limit(alloc: Global, writer: W, limit: usize) -> Gather<W>
         ensures { IsNewGather limit writer result }
     {
@@ -76,14 +75,14 @@ impl<W> Gather<W> {
         }
     }
 
-    /// The writer to which bytes are handed on.
+    /// Returns the writer to which bytes are handed on.
     pub fn writer(&self) -> &W
         ensures { result.now ≡ self.now.writer }
     {
         &self.writer
     }
 
-    /// The bytes that are kept.
+    /// Returns the bytes that are kept.
     pub fn kept(&self) -> &[u8]
         ensures bytes { result.now ≡ self.now.kept }
         ensures bound { length result.now ≤ self.now.limit }
@@ -91,7 +90,7 @@ impl<W> Gather<W> {
         self.kept.as_slice()
     }
 
-    /// How often memory for bytes was refused, so that they were offered to the writer itself.
+    /// Returns how often memory for bytes was refused, so that they were offered to the writer directly.
     pub fn refusals(&self) -> u64
         ensures { result ≡ self.now.refusals }
     {
@@ -100,12 +99,15 @@ impl<W> Gather<W> {
 }
 
 impl<W: Sink> Gather<W> {
-    // Writes what is kept, until the writer has taken all of it, or fails.
+    // Writes the kept bytes until the writer has taken all of them, or fails.
     fn hand_on(&mut self) -> io::Result<()>
+        // The bytes written and kept are the same as before. At an `Ok` none are kept.
         ensures bytes { Keeps (append_known (W.contents self.old.writer) self.old.kept)
             (append_known (W.contents self.new.writer) self.new.kept) }
         ensures ok { OnOk result (self.new.kept ≡ []) }
+        // An error is the writer's, or reports that the writer took nothing.
         ensures err { IfErr result (λ e. IsWriterFailure (W.last self.new.writer) (error_kind e)) }
+        // The count of refusals and the limit are as they were.
         ensures refusals { self.new.refusals ≡ self.old.refusals }
         ensures limit { self.new.limit ≡ self.old.limit }
     {
@@ -120,14 +122,18 @@ impl<W: Sink> Sink for Gather<W> {
 
     ghost contents = { λ g. append_known (W.contents g.writer) g.kept };
 
-    /// Keeps the bytes. An error is the writer's, or `WriteZero` where it took nothing, and then none of them is kept.
+    /// Keeps the bytes. An error is the writer's, or `WriteZero` if the writer took nothing; after an error none of the bytes is kept.
     fn write(&mut self, bytes: &[u8]) -> io::Result<usize>
+        // This many of the bytes follow those written and kept before. At an error none do.
         ensures bound { WritesAtMost result bytes.now }
         ensures bytes { WriteAppends (append_known (W.contents self.old.writer) self.old.kept)
             (append_known (W.contents self.new.writer) self.new.kept) result bytes.now }
+        // At an `Ok` the bytes are kept, or nothing is if they can't be. An error is the writer's, or reports that it took nothing.
         ensures whole { OnOk result (IsGathered self.old self.new bytes.now) }
         ensures err { IfErr result (λ e. IsWriterFailure (W.last self.new.writer) (error_kind e)) }
-        ensures refusals { (self.new.refusals ≡ self.old.refusals) ⊎ (self.new.refusals ≡ min (self.old.refusals + 1) (2 ^ 64 - 1)) }
+        // At most one more refusal is counted, and the limit is as it was.
+        ensures refusals { (self.new.refusals ≡ self.old.refusals)
+            ⊎ (self.new.refusals ≡ min (self.old.refusals + 1) (2 ^ 64 - 1)) }
         ensures limit { self.new.limit ≡ self.old.limit }
     {
         if bytes.len() > self.limit - self.kept.len() {
@@ -143,15 +149,18 @@ impl<W: Sink> Sink for Gather<W> {
         self.writer.write(bytes)
     }
 
-    /// Writes what is kept, and flushes the writer. What an error leaves unwritten is still kept. Memory above `ROOM_AT_REST`
-    /// is let go.
+    /// Writes the kept bytes, and flushes the writer. After an error, bytes that weren't written are still kept. Releases memory above
+    /// `ROOM_AT_REST`.
     fn flush(&mut self) -> io::Result<()>
+        // The bytes written and kept are the same as before. At an `Ok` none are kept, and the room is at most `ROOM_AT_REST`.
         ensures bytes { Keeps (append_known (W.contents self.old.writer) self.old.kept)
             (append_known (W.contents self.new.writer) self.new.kept) }
         ensures kept { OnOk result (self.new.kept ≡ []) }
         ensures room { OnOk result (self.new.room ≤ ROOM_AT_REST) }
+        // The count of refusals and the limit are as they were.
         ensures refusals { self.new.refusals ≡ self.old.refusals }
         ensures limit { self.new.limit ≡ self.old.limit }
+        // By its last answer the writer was flushed, or failed with this error.
         ensures answer { IsFlushOf (W.last self.new.writer) result }
     {
         self.hand_on()?;
@@ -163,10 +172,11 @@ impl<W: Sink> Sink for Gather<W> {
 }
 
 #[tactic(auto, using(crate::proofs::Handing::taken_further, crate::proofs::Handing::taken_fits))]
-// Writes bytes, until all are taken, or the writer fails or takes nothing. Says how many it took.
+// Writes bytes until all are taken, or the writer fails or takes nothing. Returns how many it took.
 fn write_front<W: Sink>(writer: &mut W, bytes: &[u8]) -> (usize, io::Result<()>)
     ensures bound { result.0 ≤ length bytes.now }
-    ensures bytes { Appends (W.contents writer.old) (W.contents writer.new) (take result.0 bytes.now) }
+    ensures bytes { Appends (W.contents writer.old) (W.contents writer.new)
+        (take result.0 bytes.now) }
     ensures ok { OnOk result.1 (result.0 ≡ length bytes.now) }
     ensures err { IfErr result.1 (λ e. IsWriterFailure (W.last writer.new) (error_kind e)) }
 {
@@ -181,7 +191,7 @@ fn write_front<W: Sink>(writer: &mut W, bytes: &[u8]) -> (usize, io::Result<()>)
     (at, Ok(()))
 }
 
-// Takes the first bytes away.
+// Removes the first `count` bytes.
 fn remove_front(kept: &mut Vec<u8>, count: usize)
     requires { count ≤ length kept.old.items }
     ensures { kept.new.items ≡ drop count kept.old.items }

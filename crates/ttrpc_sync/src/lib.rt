@@ -1,8 +1,8 @@
-//! The loops between a stream of bytes and a port: one hands on what a reader gives, the other writes what is lent and
-//! reports what the writer took, a third takes jobs, hands each to its handler and reports the outcome. They add nothing,
-//! and end only for a reason that they told or were told. In `ends` the ports of a connection that threads share, and whose
-//! turn it is to write; in `link` that connection over a socket; in `pool` how many of its workers wait. This crate knows
-//! neither core.
+//! The loops between a stream of bytes and a port. One loop hands on the bytes that a reader gives. The other writes the bytes that a port
+//! lends, and reports the bytes that the writer took. A third loop takes jobs, hands each to its handler and reports the outcome. The loops
+//! add nothing, and end only for a reason that they reported or that was reported to them.
+//! The module `ends` has the ports of a connection that threads share, and the turn to write. The module `link` has that connection over a
+//! socket, and `pool` counts its waiting workers. This crate knows neither core.
 #![tactic(auto)]
 
 pub mod ends;

@@ -1,21 +1,21 @@
-//! How a thread takes the lock of a connection, which each thread has for a moment at a time. A thread that finds it taken
-//! looks again some times before it sleeps, since to be woken takes longer than anybody has the lock.
+//! How a thread takes the lock of a connection. Each thread holds this lock only for a moment. A thread that finds it taken tries again
+//! several times before it sleeps, since waking a thread takes longer than any thread holds the lock.
 
 use std::hint::spin_loop;
 use std::sync::{Condvar, Mutex, MutexGuard, Wait};
 use std::thread::yield_now;
 use std::time::Duration;
 
-/// How often a thread looks at once.
+/// The number of attempts in a row, without a yield between them.
 const LOOKS: u32 = 100;
 
-/// How often it then looks again, each time behind others that are ready to run.
+/// The number of attempts after that, each after a yield to other threads that are ready to run.
 const YIELDS: u32 = 50;
 
-/// For how many seconds a thread sleeps at most, which may wake by itself.
+/// The longest sleep of a waiting thread, in seconds. A thread may also wake by itself.
 const SLEEP: u64 = 86400;
 
-/// Locks it.
+/// Locks `mutex`.
 pub fn lock_soon<'a, X: Wait, T: Drop>(rt: &X, mutex: &'a Mutex<T>) -> MutexGuard<'a, T> {
     for _ in 0..LOOKS {
         if let Some(guard) = mutex.try_lock() {
@@ -32,7 +32,7 @@ pub fn lock_soon<'a, X: Wait, T: Drop>(rt: &X, mutex: &'a Mutex<T>) -> MutexGuar
     mutex.lock(rt)
 }
 
-/// Lets the lock go, sleeps until it is woken, and locks again. It may wake by itself, too.
+/// Releases the lock, sleeps until the condition is notified, and locks again. The thread may also wake by itself.
 pub fn wait_soon<'a, X: Wait, T: Drop>(
     rt: &X,
     condvar: &Condvar,

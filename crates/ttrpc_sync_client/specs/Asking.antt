@@ -1,4 +1,4 @@
--- What is to be done once the request of a client's call is queued.
+-- The next actions after the request of a client's call was queued.
 -- Source: this project's.
 use Rattle.std.specs.Prelude.{◌≡◌, ℕ, true, false, if◌then◌else◌}
 use Rattle.ttrpc_proto.specs.declared.messages.Request.{Request}
@@ -11,8 +11,8 @@ use Rattle.ttrpc_sync_client.specs.ReadTurns.{begun, is_alone, may_write, turn_w
 use Rattle.ttrpc_sync_client.specs.declared.connection.Asked.{Asked}
 use Rattle.ttrpc_sync_client.specs.declared.ports.client.ClientHeld.{ClientHeld}
 
--- The request of a call was queued at a moment. Its caller waits until the call's deadline, writes for itself where it may, and
--- reads for itself where it is alone, too; else who writes and who reads is woken, where that is to be.
+-- The request of a call was queued at a moment. Its caller waits until the call's deadline, writes for itself if it may, and also reads for
+-- itself if it is alone; otherwise the threads that write and read are woken, if needed.
 pub record Asks {O I : Type 0} (seals : OutboundTransform O) (old : ClientHeld O I) (request : Request) (now : ℕ) (asked : Asked) (new : ClientHeld O I) : Type 0 where
   pub requests : Requests seals old.core request now asked.waiting.id new.core
   pub deadline : asked.waiting.deadline ≡ deadline_of now request.timeout_nano

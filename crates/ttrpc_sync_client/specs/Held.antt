@@ -1,4 +1,4 @@
--- What the calls of a client's ports do to its core and to the turn to read, under the lock.
+-- How the calls of a client's ports change its core and the turn to read, under the lock.
 -- Source: this project's.
 use Rattle.std.specs.Prelude.{◌≡◌, ◌⊎◌, ◌<◌, ◌^◌, ◌/◌, ◌%◌, ℕ, List, [], ◌∷◌, Bool, true, false, Option, Some, None, Result, IfSome, is_ok, is_some, nat_eq, nat_le, nat_lt, if◌then◌else◌}
 use Rattle.std.specs.Int.{bit_at}
@@ -27,7 +27,7 @@ use Rattle.ttrpc_sync_client.specs.declared.ports.read_turn.ReadTurn.{ReadTurn}
 abbrev pub place_of : ℕ → ℕ
 place_of id = (id / 2) % 16
 
--- whether the caller of one of these calls waits at this place
+-- true if the caller of one of these calls waits at this place
 abbrev pub waits_at : List ℕ → ℕ → Bool
 waits_at ended place = list_any (λ id. nat_eq (place_of id) place) ended
 
@@ -35,16 +35,16 @@ waits_at ended place = list_any (λ id. nat_eq (place_of id) place) ended
 abbrev pub ArePlaces : List ℕ → ℕ → Type 0
 ArePlaces ended places = (place : ℕ) → bit_at places place ≡ (if waits_at ended place then 1 else 0)
 
--- the turn once all of these calls have ended
+-- the turn after all of these calls have ended
 abbrev pub all_ended : ReadTurn → List ℕ → ReadTurn
 all_ended turn [] = turn
 all_ended turn (id ∷ ids) = all_ended (ended turn id) ids
 
--- the core once it has told of all calls that ended
+-- the core after it has reported all calls that ended
 abbrev pub all_told : {O I : Type 0} → ClientCore O I → ClientCore O I
 all_told core = record core { state = record core.state { ended = [] } }
 
--- The core has told of all calls that ended: the turn knows of each, and these are the places of their callers.
+-- The core has reported all calls that ended. The turn knows each of them, and these are the places of their callers.
 pub record TellsEnded {O I : Type 0} (old : ClientCore O I) (reading : ReadTurn) (places : ℕ) (new : ClientCore O I) (told : ReadTurn) : Type 0 where
   pub core : new ≡ all_told old
   pub turn : told ≡ all_ended reading old.state.ended
@@ -52,8 +52,8 @@ pub record TellsEnded {O I : Type 0} (old : ClientCore O I) (reading : ReadTurn)
 
 -- ---- bytes in
 
--- A piece was fed to the core, and taken where places are given: those of the calls that have ended then. The core has
--- told of these.
+-- A piece was fed to the core. If places are given, it was taken, and these are the places of the calls that have ended then. The core has
+-- reported these calls.
 pub record IsFed {O I : Type 0} (seals : OutboundTransform O) (opens : InboundTransform I) (old : ClientCore O I) (reading : ReadTurn) (piece : List ℕ) (places : Option ℕ) (new : ClientCore O I) (told : ReadTurn) : Type 0 where
   pub fed : ClientCore O I
   pub answer : Result ℕ Error
@@ -67,14 +67,14 @@ pub record IsFed {O I : Type 0} (seals : OutboundTransform O) (opens : InboundTr
 abbrev pub callers_of : Taken Woken → ℕ
 callers_of taken = taken.woken.callers
 
--- what the reader does behind a piece that was taken; where it wasn't, the turn stays
+-- the reader's action after a piece that was taken; if the piece wasn't taken, the turn is unchanged
 abbrev pub GoesOn : ReadTurn → Option (Taken Woken) → ReadTurn → Type 0
 GoesOn turn None new = new ≡ turn
 GoesOn turn (Some taken) new =
     (taken.reads_on ≡ reads_on (onward_of turn.reader turn)) × (taken.woken.reader ≡ hands_over (onward_of turn.reader turn))
     × (new ≡ turn_onward (onward_of turn.reader turn) turn)
 
--- A piece came: it was fed, and its reader goes on as it may then.
+-- A piece came and was fed, and its reader goes on as it may then.
 pub record TakesPiece {O I : Type 0} (seals : OutboundTransform O) (opens : InboundTransform I) (old : ClientCore O I) (reading : ReadTurn) (piece : List ℕ) (given : Option (Taken Woken)) (new : ClientCore O I) (after : ReadTurn) : Type 0 where
   pub told : ReadTurn
   pub fed : IsFed seals opens old reading piece (option_map callers_of given) new told
@@ -82,17 +82,18 @@ pub record TakesPiece {O I : Type 0} (seals : OutboundTransform O) (opens : Inbo
 
 -- ---- bytes out
 
--- whether bytes can be lent
+-- true if bytes can be lent
 abbrev pub has_bytes : {O I : Type 0} → ClientCore O I → Bool
 has_bytes core = nat_lt 0 (lendable core.connection)
 
--- whether the connection hasn't failed
+-- true if the connection hasn't failed
 abbrev pub is_alive : {O I : Type 0} → ClientCore O I → Bool
 is_alive core = if is_some core.connection.failure then false else true
 
 -- ---- calls
 
--- how a call was made at a moment: whether nothing waited to be written before it, and whether at most so many bytes do then
+-- the manner of a call that was made at a moment: whether it may expire, whether nothing waited to be written before it, and whether its
+-- frame is short
 abbrev pub manner_of : {O I : Type 0} → ClientCore O I → Request → (now : ℕ) → ClientCore O I → Manner
 manner_of old request now new = record {
   has_deadline = is_some (deadline_of now request.timeout_nano);
@@ -104,7 +105,7 @@ manner_of old request now new = record {
 abbrev pub NeverExpires : {O I : Type 0} → ClientCore O I → Type 0
 NeverExpires core = core.connection.failure ≡ None → (now : ℕ) → now < 2 ^ 64 → due_ids now core.state.calls ≡ []
 
--- A moment came, and the core has told of the calls that ended by then.
+-- A moment came, and the core has reported the calls that ended by then.
 pub record TicksAndTells {O I : Type 0} (seals : Bool) (old : ClientCore O I) (reading : ReadTurn) (new : ClientCore O I) (told : ReadTurn) : Type 0 where
   pub now : ℕ
   pub ticked : ClientCore O I
@@ -112,6 +113,6 @@ pub record TicksAndTells {O I : Type 0} (seals : Bool) (old : ClientCore O I) (r
   pub ticks : Ticks seals old now ticked
   pub tells : TellsEnded ticked reading places new told
 
--- the same, or no call will ever expire, and nothing changed
+-- a moment came and was reported, or no call will ever expire, and nothing changed
 abbrev pub HasTicked : {O I : Type 0} → Bool → ClientCore O I → ReadTurn → ClientCore O I → ReadTurn → Type 0
 HasTicked seals old reading new told = TicksAndTells seals old reading new told ⊎ (NeverExpires old × (new ≡ old) × (told ≡ reading))

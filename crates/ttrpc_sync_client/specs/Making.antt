@@ -18,10 +18,11 @@ IsNotMade e = IsFault e ⊎ (e ≡ NoMemory)
 abbrev pub NamesPlace : List ℕ → Type 0
 NamesPlace addr = (place : Place) × IsPlace addr place
 
--- the address names no place, or it names one, and the connection to it or its client wasn't made
+-- the address names no place, or it names one, but the connection to it or its client couldn't be
+-- made
 abbrev pub IsNotConnected : List ℕ → Error → Type 0
 IsNotConnected addr e = IsNoPlace addr e ⊎ (NamesPlace addr × IsNotMade e)
 
--- the hook refused the connection, for a reason that it gives
+-- the hook refused the connection, for a reason that the hook gives
 abbrev pub IsRefusedByHook : (HookError → Type 0) → Error → Type 0
 IsRefusedByHook gives e = (why : HookError) × gives why × IsOthers (codes "client connect hook failed: ") (hook_error_text why) e

@@ -1,4 +1,4 @@
--- Whose turn it is to read.
+-- The turn to read.
 -- Source: this project's.
 use Rattle.std.specs.Prelude.{◌+◌, ◌-◌, ◌^◌, min, ℕ, Bool, true, false, Option, Some, None, Result, Ok, Err, if◌then◌else◌, is_some, nat_eq, nat_lt, nat_le}
 use Rattle.ttrpc_proto.specs.declared.error.Error.{Error}
@@ -12,11 +12,11 @@ use Rattle.ttrpc_sync_client.specs.declared.ports.read_turn.Onward.TheVariants.{
 use Rattle.ttrpc_sync_client.specs.declared.ports.read_turn.Manner.{Manner}
 use Rattle.ttrpc_sync_client.specs.declared.ports.read_turn.ReadTurn.{ReadTurn}
 
--- nobody's, and no call is under way
+-- a turn that no thread has, without a call under way
 abbrev pub new_turn : ReadTurn
 new_turn = record { reader = Nobody; sleeps = false; callers = 0; alone = 0; last = None; unread = None }
 
--- Nobody reads.
+-- No thread reads.
 abbrev pub is_free : Reader → Bool
 is_free Nobody = true
 is_free Thread = false
@@ -28,24 +28,24 @@ reads_for Nobody id = false
 reads_for Thread id = false
 reads_for (Caller other) id = nat_eq other id
 
--- There is a call, and it is this one.
+-- The call is known, and is this one.
 abbrev pub is_call : Option ℕ → ℕ → Bool
 is_call None id = false
 is_call (Some other) id = nat_eq other id
 
--- A caller may write for itself: nothing waits before its frame, and it has no deadline, past which a write could hold it.
+-- A caller may write for itself: nothing waits before its frame, and it has no deadline. With a deadline, a write could hold it too long.
 abbrev pub may_write : Manner → Bool
 may_write manner = if manner.is_next then (if manner.has_deadline then false else true) else false
 
--- No other call is under way, and the peer has read all that was written, since it answered the last call.
+-- No other call is under way, and the peer has read all bytes that were written, since it answered the last call.
 abbrev pub is_first : ReadTurn → Bool
 is_first turn = if is_some turn.unread then false else nat_eq turn.callers 0
 
--- A caller that writes for itself may read for itself, too, where its frame is short, and it is the first.
+-- A caller that writes for itself may read for itself, too, if its frame is short, and it is the first.
 abbrev pub is_alone : ReadTurn → Manner → Bool
 is_alone turn manner = if manner.is_short then (if is_first turn then may_write manner else false) else false
 
--- the turn once a call has begun
+-- the turn after a call has begun
 abbrev pub begun : ReadTurn → ℕ → (is_alone : Bool) → ReadTurn
 begun turn id is_alone = record turn {
   callers = min (turn.callers + 1) (2 ^ 64 - 1);
@@ -54,14 +54,14 @@ begun turn id is_alone = record turn {
   unread = Some id;
 }
 
--- the turn once a call has ended: its caller reads no more
+-- the turn after a call has ended: its caller reads no more
 abbrev pub ended : ReadTurn → ℕ → ReadTurn
 ended turn id = record turn {
   reader = if reads_for turn.reader id then Nobody else turn.reader;
   last = if is_call turn.last id then None else turn.last;
 }
 
--- the turn once a caller has its outcome: where the call that began last was answered, the peer has read all requests
+-- the turn after a caller has its outcome: if the call that began last was answered, the peer has read all requests
 abbrev pub finished : ReadTurn → ℕ → (is_answered : Bool) → ReadTurn
 finished turn id is_answered = record turn {
   callers = turn.callers - 1;
@@ -74,12 +74,12 @@ is_answer (Ok response) = true
 is_answer (Err (RpcStatus status)) = true
 is_answer (Err error) = false
 
--- the turn once the caller of a call has asked for its outcome, and has it where there is one
+-- the turn after the caller of a call has asked for its outcome, and got it if there was one
 abbrev pub turn_asked : ReadTurn → ℕ → Option (Result Response Error) → ReadTurn
 turn_asked turn id None = turn
 turn_asked turn id (Some outcome) = finished turn id (is_answer outcome)
 
--- The caller of this call may take the turn: nobody has it, and the call is the last one and hasn't ended.
+-- The caller of this call may take the turn: no thread has it, and the call is the last one and hasn't ended.
 abbrev pub may_take : ReadTurn → ℕ → Bool
 may_take turn id = if is_free turn.reader then is_call turn.last id else false
 
@@ -91,13 +91,13 @@ may_rest turn = if is_some turn.last then false else nat_le CALLS_TO_REST turn.a
 abbrev pub leaves_others : ReadTurn → Bool
 leaves_others turn = if turn.sleeps then nat_lt 1 turn.callers else false
 
--- what a reader does behind a piece; where nobody reads any more, the call of its caller has ended with it
+-- the next action of a reader after a piece; if no thread has the turn any more, the piece ended the call of the reading caller
 abbrev pub onward_of : Reader → ReadTurn → Onward
 onward_of Nobody turn = if leaves_others turn then HandsOver else Leaves
 onward_of Thread turn = if may_rest turn then Leaves else Reads
 onward_of (Caller id) turn = Reads
 
--- the turn then
+-- the turn after that action
 abbrev pub turn_onward : Onward → ReadTurn → ReadTurn
 turn_onward Reads turn = turn
 turn_onward Leaves turn = record turn { reader = Nobody }
@@ -115,10 +115,10 @@ hands_over Reads = false
 hands_over Leaves = false
 hands_over HandsOver = true
 
--- The reader thread is to be woken for a caller that doesn't read: nobody reads, and it sleeps.
+-- The reader thread is to be woken for a caller that doesn't read: no thread reads, and the reader thread sleeps.
 abbrev pub wakes_thread : ReadTurn → Bool
 wakes_thread turn = if is_free turn.reader then turn.sleeps else false
 
--- the turn then
+-- the turn after that
 abbrev pub turn_waking : ReadTurn → ReadTurn
 turn_waking turn = if is_free turn.reader then record turn { sleeps = false } else turn

@@ -25,8 +25,8 @@ use ttrpc_secure::{
 use ttrpc_sync::{Host, Link, Runtime};
 use ttrpc_transport::{ClientConnection, PipeConnection};
 
-/// A client of one connection, which contracts see as what is known of that. Its clones share the connection, and threads
-/// may call through each at the same time. The connection is closed, and its threads end, as the last of them is dropped.
+/// A client of one connection. Contracts see it as the connection's data. Its clones share the connection, and threads may call through
+/// each clone at the same time. When the last clone is dropped, the connection is closed, and its threads end.
 #[derive(Drop)]
 pub struct Client<R: Host, O: OutboundTransform + Drop, I: InboundTransform + Drop> {
     rt: R,
@@ -43,8 +43,8 @@ impl<R: Host, O: OutboundTransform + Drop, I: InboundTransform + Drop> Model for
 }
 
 impl<R: Runtime> Client<R, Plain, Plain> {
-    /// Connects to an address, `unix://PATH` or `tcp://IP:PORT`. Whether each write by TCP goes out at once is `nodelay`.
-    /// An address that names no place is `Others`, and a fault of the system `Nix`.
+    /// Connects to an address, `unix://PATH` or `tcp://IP:PORT`. With `nodelay`, each write by TCP goes out at once. The error is `Others`
+    /// if the address names no place, and `Nix` if the system reports a fault.
     pub fn connect(rt: R, sockaddr: &str, nodelay: bool) -> Result<Client<R, Plain, Plain>>
     where
         R: Net<Stream = TcpStream>,
@@ -56,7 +56,7 @@ impl<R: Runtime> Client<R, Plain, Plain> {
         Client::new(rt, connection.get_pipe_connection()?)
     }
 
-    /// A client of this connection. A thread that can't be started is `Nix`.
+    /// Makes a client of this connection. The error is `Nix` if a thread can't be started.
     pub fn new(rt: R, stream: PipeConnection) -> Result<Client<R, Plain, Plain>>
         ensures known { IfOk result (λ client. client ≡ []) }
         ensures err { IfErr result IsNotMade }
@@ -72,13 +72,16 @@ where
     O: SendOutbound,
     I: SendInbound,
 {
-    /// A client of this connection, once the hook has looked at it, with the halves that it gave. What the hook refuses is
-    /// `Others`: `client connect hook failed: ` and what its error prints. A thread that can't be started is `Nix`.
+    /// Makes a client of this connection after the hook has looked at it, with the halves that the hook gave. A refusal by the hook is
+    /// `Others`: `client connect hook failed: ` and the text that its error prints. The error is `Nix` if a thread can't be started.
     pub fn with_hook<H>(rt: R, stream: PipeConnection, hook: &H) -> Result<Client<R, O, I>>
     where
         H: ConnectHook<PipeConnection, Outbound = O, Inbound = I>,
-        ensures known { IfOk result (λ client. (output : AnOutput O I) × H.gives hook.now stream (Ok output) × (client ≡ facts_of output.connection_data.entries)) }
-        ensures err { IfErr result (λ e. IsRefusedByHook (λ why. H.gives hook.now stream (Err why)) e ⊎ IsNotMade e) }
+        ensures known { IfOk result
+            (λ client. (output : AnOutput O I) × H.gives hook.now stream (Ok output)
+            × (client ≡ facts_of output.connection_data.entries)) }
+        ensures err { IfErr result
+            (λ e. IsRefusedByHook (λ why. H.gives hook.now stream (Err why)) e ⊎ IsNotMade e) }
     {
         let alloc = rt.alloc();
         match hook.on_connect(alloc, &stream) {
@@ -89,26 +92,26 @@ where
 }
 
 impl<R: Host, O: OutboundTransform + Drop, I: InboundTransform + Drop> Client<R, O, I> {
-    /// What is known of the connection, as its hook told it.
+    /// Returns the data of the connection, as its hook reported it.
     pub fn connection_data(&self) -> &ConnectionData
         ensures { facts_of result.now.entries ≡ self.now }
     {
         self.connection.connection_data()
     }
 
-    /// The allocator of its calls.
+    /// Returns the allocator of the client's calls.
     pub fn alloc(&self) -> Global {
         self.rt.alloc()
     }
 
-    /// Calls, and waits for the response. An error is the status of one whose code isn't 0 (`RpcStatus`), a refusal of the
-    /// request, its deadline (`Others`), or what broke the connection. The request's `timeout_nano`, in nanoseconds, is
-    /// counted from here on; 0 is no limit.
+    /// Makes a call, and waits for the response. The error is the response's status if its code isn't 0 (`RpcStatus`), a refusal of the
+    /// request, its deadline (`Others`), or the error that broke the connection. The request's `timeout_nano`, in nanoseconds, counts from
+    /// here on; 0 is no limit.
     pub fn request(&self, req: Request) -> Result<Response> {
         self.connection.call(&self.rt, &req)
     }
 
-    /// Another client of the same connection.
+    /// Makes another client of the same connection.
     pub fn try_clone(&self) -> Result<Client<R, O, I>>
         ensures ok { IfOk result (λ client. client ≡ self.now) }
         ensures err { IfErr result (λ e. e ≡ AnError.NoMemory) }
@@ -139,7 +142,7 @@ where
         outbound,
         inbound,
     } = output;
-    let shared = ClientShared::new(core_of(alloc, outbound, inbound));
+    let shared = ClientShared::new(core_of(alloc, outbound, inbound)?);
     let stream = Arc::new(alloc, stream)?;
     let link = Arc::new(alloc, Link::new(alloc, shared, stream)?)?;
     let connection = ClientConn::new(Arc::try_clone(&link)?, connection_data);
@@ -152,19 +155,21 @@ where
     Ok(client)
 }
 
-/// The core of a client with threads, whose bytes go through these halves, and whose first call has the id 1. What is known
-/// of the connection stands beside the lock, and not in the core.
-fn core_of<O, I>(alloc: Global, outbound: O, inbound: I) -> ClientCore<O, I>
+/// Makes the core of a client with threads, with these halves for its bytes. Its first call has the id 1. The connection's data lies beside
+/// the lock, and not in the core.
+fn core_of<O, I>(alloc: Global, outbound: O, inbound: I) -> Result<ClientCore<O, I>>
 where
     O: OutboundTransform + Drop,
     I: InboundTransform + Drop,
-    ensures { result ≡ new_core ClientKind.Sync 1 [] outbound inbound }
+    ensures ok { IfOk result (λ core. core ≡ new_core ClientKind.Sync 1 [] outbound inbound) }
+    ensures err { IfErr result (λ e. e ≡ AnError.NoMemory) }
 {
     let context = ConnectionContext::of_halves(alloc, outbound, inbound);
-    ClientCore::new(alloc, ClientKind::Sync, context)
+    let core = ClientCore::new(alloc, ClientKind::Sync, context)?;
+    Ok(core)
 }
 
-/// The error for a thread that the system refused.
+/// Converts the error of a thread that the system refused.
 fn fault(error: io::Error) -> Error
     ensures { result ≡ AnError.Nix (error_kind error) }
 {

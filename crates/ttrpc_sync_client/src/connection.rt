@@ -1,4 +1,4 @@
-//! A client's connection, which lives as long as a client of it.
+//! A client's connection, which lives as long as any client of it.
 ghost use Rattle.std.specs.Prelude.{◌≡◌, IfErr, IfOk, OnErr, OnOk, false};
 ghost use Rattle.ttrpc_client.specs.Protocol.{Forgets, RefusesRequest, TakesOutcome};
 ghost use Rattle.ttrpc_connection.specs.Deadlines.{deadline_of};
@@ -22,7 +22,7 @@ use ttrpc_sync::{
     AfterQueuing, Connected, Held, Host, Link, after_queuing, lock_soon, moment, wait_soon,
 };
 
-/// A client's connection, which contracts see as what is known of it. It is closed as the last client of it is dropped.
+/// A client's connection. Contracts see it as the connection's data. It is closed when its last client is dropped.
 pub struct ClientConn<O: OutboundTransform + Drop, I: InboundTransform + Drop> {
     link: Arc<Link<ClientShared<O, I>>, Global>,
     known: ConnectionData,
@@ -48,23 +48,23 @@ impl<O: OutboundTransform + Drop, I: InboundTransform + Drop> Drop for ClientCon
 #[derive(Clone, Copy)]
 struct Waiting {
     id: CallId,
-    /// The moment at which it expires, in nanoseconds.
+    /// The moment at which the call expires, in nanoseconds.
     deadline: Option<u128>,
-    /// Whether its caller may read for itself.
+    /// True if the caller may read for itself.
     is_alone: bool,
 }
 
-/// A call whose request was queued, once the lock is let go.
+/// A call after its request was queued and the lock was released.
 #[derive(Clone, Copy)]
 struct Asked {
     waiting: Waiting,
     queued: AfterQueuing,
-    /// Whether the reader thread is to be woken.
+    /// True if the reader thread is to be woken.
     wakes: bool,
 }
 
 impl<O: OutboundTransform + Drop, I: InboundTransform + Drop> ClientConn<O, I> {
-    /// A connection over `link`, with what is known of it.
+    /// Makes a connection over `link`, with its data.
     pub fn new(
         link: Arc<Link<ClientShared<O, I>>, Global>,
         known: ConnectionData,
@@ -74,7 +74,7 @@ impl<O: OutboundTransform + Drop, I: InboundTransform + Drop> ClientConn<O, I> {
         ClientConn { link, known }
     }
 
-    /// What is known of the connection.
+    /// Returns the data of the connection.
     pub fn connection_data(&self) -> &ConnectionData
         ensures { facts_of result.now.entries ≡ self.now }
     {
@@ -90,10 +90,11 @@ impl<O: OutboundTransform + Drop, I: InboundTransform + Drop> ClientConn<O, I> {
         self.wait(rt, waiting)
     }
 
-    /// Queues the request of a call as soon as there is room, has it written, and has a thread read. A call whose deadline comes
-    /// before there is room has expired.
+    /// Queues the request of a call as soon as there is room, and makes sure that a thread writes it and a thread reads. If the call's
+    /// deadline comes before there is room, the call has expired.
     fn ask<R: Host>(&self, rt: &R, request: &Request, now: u64) -> Result<Waiting>
-        ensures { IfOk result (λ waiting. waiting.deadline ≡ deadline_of now request.now.timeout_nano) }
+        ensures { IfOk result
+            (λ waiting. waiting.deadline ≡ deadline_of now request.now.timeout_nano) }
     {
         let shared = self.link.shared();
         let deadline = deadline_of(now, request.timeout_nano);
@@ -116,11 +117,11 @@ impl<O: OutboundTransform + Drop, I: InboundTransform + Drop> ClientConn<O, I> {
         unreachable!()
     }
 
-    /// Has the request of a call written, and has a thread read.
+    /// Makes sure that the request of a call is written, and that a thread reads.
     fn asked<R: Host>(&self, rt: &R, asked: Asked) -> Waiting
         ensures { result ≡ asked.waiting }
     {
-        // First the reader: a peer that writes before it reads would hold who writes a long frame.
+        // The reader comes first: otherwise a peer that writes before it reads would block the thread that writes a long frame.
         if asked.wakes {
             self.link.shared().wake_reader();
         }
@@ -128,8 +129,8 @@ impl<O: OutboundTransform + Drop, I: InboundTransform + Drop> ClientConn<O, I> {
         asked.waiting
     }
 
-    /// Waits until bytes were reported as written, or this deadline has come. Meanwhile the reader thread reads: a server that is short
-    /// of room itself goes on only as its answers are read.
+    /// Waits until bytes were reported as written, or this deadline has come. Meanwhile the reader thread reads: a server that lacks room
+    /// itself goes on only when its answers are read.
     fn wait_for_room<'a, R: Host>(
         &self,
         rt: &R,
@@ -146,7 +147,7 @@ impl<O: OutboundTransform + Drop, I: InboundTransform + Drop> ClientConn<O, I> {
         sleep_until(rt, shared.to_room(), guard, deadline)
     }
 
-    /// Reads until this call has ended, if nobody else reads.
+    /// Reads until this call has ended, if no other thread reads.
     fn read_for<R: Host>(&self, rt: &R, id: CallId) {
         let shared = self.link.shared();
         let may_read = lock_soon(rt, shared.held()).reading.take(id);
@@ -156,7 +157,7 @@ impl<O: OutboundTransform + Drop, I: InboundTransform + Drop> ClientConn<O, I> {
         }
     }
 
-    /// Waits for the outcome of a call. It tells the core the time whenever it wakes.
+    /// Waits for the outcome of a call. Reports the time to the core after each time it wakes.
     fn wait<R: Host>(&self, rt: &R, waiting: Waiting) -> Result<Response> {
         let shared = self.link.shared();
         let mut guard = lock_soon(rt, shared.held());
@@ -186,7 +187,7 @@ impl<O: OutboundTransform + Drop, I: InboundTransform + Drop> ClientConn<O, I> {
     }
 }
 
-/// Lets the lock go, sleeps until it is woken or this deadline has come, and locks again.
+/// Releases the lock, sleeps until the condition is notified or this deadline has come, and locks again.
 fn sleep_until<'a, R: Host, T: Drop>(
     rt: &R,
     condvar: &Condvar,
@@ -205,7 +206,7 @@ fn sleep_until<'a, R: Host, T: Drop>(
     }
 }
 
-/// Gives the outcome of a call, and tells the turn to read that its caller has it; `None` where there is none yet.
+/// Takes the outcome of a call, and reports to the turn to read that its caller has it. Returns `None` if there is no outcome yet.
 fn outcome_of<O: OutboundTransform + Drop, I: InboundTransform + Drop>(
     held: &mut ClientHeld<O, I>,
     alloc: Global,
@@ -220,7 +221,7 @@ fn outcome_of<O: OutboundTransform + Drop, I: InboundTransform + Drop>(
     Some(outcome)
 }
 
-/// Forgets a call whose caller waits no longer, though it has no outcome.
+/// Forgets a call that has no outcome, since its caller waits no longer.
 fn give_up<O: OutboundTransform + Drop, I: InboundTransform + Drop>(
     held: &mut ClientHeld<O, I>,
     id: CallId,
@@ -233,25 +234,27 @@ fn give_up<O: OutboundTransform + Drop, I: InboundTransform + Drop>(
     held.reading.finished(id, false);
 }
 
-/// Whether the peer has answered the call, and so has read its request.
+/// Returns whether the peer has answered the call, and so has read its request.
 fn is_answer(outcome: &Result<Response>) -> bool
     ensures { result ≡ is_answer outcome.now }
 {
     matches!(outcome, Ok(_) | Err(Error::RpcStatus(_)))
 }
 
-/// Queues the request of a call, and says what is to be done next. Its caller writes for itself where nothing waits before its
-/// frame and it has no deadline, past which a peer that reads nothing would hold it. It reads for itself, too, where no other
-/// call is under way and the socket surely has room for its frame: else a peer that writes before it reads would hold it.
+/// Queues the request of a call, and returns how its caller goes on. The caller writes for itself if nothing waits before its frame and it
+/// has no deadline. A peer that reads nothing could hold a caller past its deadline. The caller reads for itself, too, if no other call is
+/// under way and the socket surely has room for its frame. Otherwise a peer that writes before it reads could block it.
 fn queue_request<O: OutboundTransform + Drop, I: InboundTransform + Drop>(
     held: &mut ClientHeld<O, I>,
     alloc: Global,
     request: &Request,
     now: u64,
 ) -> Result<Asked>
-    ensures ok { IfOk result (λ asked. Asks O.OutboundTransform held.old request.now now asked held.new) }
+    ensures ok { IfOk result
+        (λ asked. Asks O.OutboundTransform held.old request.now now asked held.new) }
     ensures refused { IfErr result (RefusesRequest O.OutboundTransform held.old.core request.now) }
-    ensures err { OnErr result ((held.new.core ≡ held.old.core) × (held.new.turn ≡ held.old.turn) × (held.new.reading ≡ held.old.reading)) }
+    ensures err { OnErr result ((held.new.core ≡ held.old.core) × (held.new.turn ≡ held.old.turn)
+        × (held.new.reading ≡ held.old.reading)) }
 {
     let deadline = deadline_of(now, request.timeout_nano);
     let nothing_waits = held.core.lendable() == 0;
@@ -275,21 +278,23 @@ fn queue_request<O: OutboundTransform + Drop, I: InboundTransform + Drop>(
     })
 }
 
-/// Tells the core the moment, where a call may expire.
+/// Reports the current moment to the core, if a call may expire.
 fn ticked<R: Host, O: OutboundTransform + Drop, I: InboundTransform + Drop>(
     rt: &R,
     held: &mut ClientHeld<O, I>,
 ) -> Result<()>
-    ensures ok { OnOk result (HasTicked O.SEALS held.old.core held.old.reading held.new.core held.new.reading) }
+    ensures ok { OnOk result
+        (HasTicked O.SEALS held.old.core held.old.reading held.new.core held.new.reading) }
     ensures fault { IfErr result IsFault }
-    ensures err { OnErr result ((held.new.core ≡ held.old.core) × (held.new.reading ≡ held.old.reading)) }
+    ensures err { OnErr result
+        ((held.new.core ≡ held.old.core) × (held.new.reading ≡ held.old.reading)) }
     ensures turn { held.new.turn ≡ held.old.turn }
 {
     if held.core.next_deadline().is_none() {
         return Ok(());
     }
     held.tick(moment(rt)?);
-    // Those that expired wake by themselves.
+    // The callers of expired calls wake by themselves.
     let _ = held.note_ended();
     Ok(())
 }

@@ -1,5 +1,5 @@
 //! The client with threads: one connection that any number of callers share, a thread that reads it, and one that
-//! writes where no caller does. In `ports` what stands under its lock.
+//! writes when no caller does. The module `ports` has the state under the connection's lock.
 #![tactic(auto)]
 
 mod client;

@@ -1,4 +1,4 @@
-//! What accepts a server's connections.
+//! How a server accepts its connections.
 ghost use Rattle.std.specs.Prelude.{◌↔◌, IsTrue};
 ghost use Rattle.ttrpc_sync_server.specs.Accepting.{IsRetriedAtOnce};
 
@@ -8,9 +8,9 @@ use std::time::{Clock, Duration};
 use ttrpc_proto::Error;
 use ttrpc_transport::{PipeConnection, PipeListener, Watch};
 
-/// Where connections come from.
+/// A source of connections.
 pub trait Accepts {
-    /// Waits for a connection. `None`: no more come.
+    /// Waits for a connection. Returns `None` if no more come.
     fn accept(&self) -> io::Result<Option<PipeConnection>>;
 }
 
@@ -20,8 +20,8 @@ impl Accepts for PipeListener {
     }
 }
 
-/// What a server that waits to accept again is told: to listen no more, or that one of its connections has ended, so that
-/// its descriptor is free. And what its owner waits for, the request to shut it down.
+/// The state by which a server is asked to stop. A server that waits to accept again learns from it that it is to listen no more, or that
+/// one of its connections has ended, so that a descriptor is free. The server's owner waits on it for the request to shut the server down.
 #[derive(Drop)]
 pub struct Stop {
     told: Mutex<Told>,
@@ -31,14 +31,14 @@ pub struct Stop {
 #[derive(Drop)]
 struct Told {
     stops: bool,
-    // How many connections have ended.
+    // The number of connections that have ended.
     ends: u64,
-    // Whether the server is to be shut down.
+    // True if the server is to be shut down.
     shuts_down: bool,
 }
 
 impl Stop {
-    /// Not asked to stop, and no connection has ended.
+    /// Makes the state of a server that isn't asked to stop, and has no ended connections.
     pub fn new() -> Stop {
         Stop {
             told: Mutex::new(Told {
@@ -50,30 +50,30 @@ impl Stop {
         }
     }
 
-    /// The server begins to listen.
+    /// Begins to listen: withdraws an earlier request to stop.
     pub fn begin<X: Wait>(&self, rt: &X) {
         self.told.lock(rt).stops = false;
     }
 
-    /// Asks it to stop.
+    /// Asks the server to stop.
     pub fn ask<X: Wait>(&self, rt: &X) {
         self.told.lock(rt).stops = true;
         self.changed.notify_all();
     }
 
-    /// Asks its owner to shut it down.
+    /// Asks the server's owner to shut it down.
     pub fn ask_to_shut_down<X: Wait>(&self, rt: &X) {
         self.told.lock(rt).shuts_down = true;
         self.changed.notify_all();
     }
 
-    /// Waits until its owner was asked to shut it down.
+    /// Waits until the server's owner was asked to shut it down.
     pub fn wait_to_shut_down<X: Wait>(&self, rt: &X) {
         let told = self.told.lock(rt);
         let _ = self.changed.wait_while(rt, told, |told| !told.shuts_down);
     }
 
-    /// A connection of the server has ended.
+    /// Reports that a connection of the server has ended.
     pub fn note_end<X: Wait>(&self, rt: &X) {
         let mut told = self.told.lock(rt);
         told.ends = told.ends.wrapping_add(1);
@@ -81,12 +81,13 @@ impl Stop {
         self.changed.notify_all();
     }
 
-    /// How many connections have ended.
+    /// Returns how many connections have ended.
     pub fn ends<X: Wait>(&self, rt: &X) -> u64 {
         self.told.lock(rt).ends
     }
 
-    /// Waits until the limit, another end than these, or the request to stop, and says whether it was asked.
+    /// Waits until the limit has passed, another connection than the first `ends` has ended, or the server is asked to stop. Returns
+    /// whether it was asked to stop.
     pub fn wait<X: Wait + Clock>(&self, rt: &X, ends: u64, limit: Duration) -> bool {
         let told = self.told.lock(rt);
         let (told, _) = self.changed.wait_timeout_while(rt, told, limit, |told| {
@@ -96,9 +97,9 @@ impl Stop {
     }
 }
 
-/// The next connection. Where the system gives none it waits for the interval, until a connection of the server has ended,
-/// or until it is to stop, and tries again, and its watch is told. At once it tries again where only a signal came, or the
-/// other side went away. `None`: the server listens no more.
+/// Returns the next connection. If the system gives none, reports that to the watch, and tries again after the interval, or as soon as a
+/// connection of the server has ended. Tries again at once if only a signal came, or the other side went away. Returns `None` if the server
+/// listens no more.
 pub fn next_connection<X: Wait + Clock, L: Accepts, W: Watch>(
     rt: &X,
     listener: &L,
@@ -122,7 +123,7 @@ pub fn next_connection<X: Wait + Clock, L: Accepts, W: Watch>(
     unreachable!()
 }
 
-/// Whether only a signal came, or the other side went away.
+/// Returns whether only a signal came, or the other side went away.
 fn is_passing(kind: ErrorKind) -> bool
     ensures { IsTrue result ↔ IsRetriedAtOnce kind }
 {

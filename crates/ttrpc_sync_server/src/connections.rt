@@ -38,7 +38,7 @@ struct Open {
 }
 
 impl Connections {
-    /// No connections. Takes no memory.
+    /// Makes an empty collection of connections. Takes no memory.
     pub fn new(alloc: Global) -> Connections {
         Connections {
             held: Mutex::new(Open {
@@ -49,7 +49,7 @@ impl Connections {
         }
     }
 
-    /// Adds a connection, and gives its number.
+    /// Adds a connection, and returns its number.
     pub fn add<X: Wait>(&self, rt: &X, connection: OpenConnection) -> Result<u64, AllocError> {
         let mut open = self.held.lock(rt);
         let number = open.next;
@@ -67,12 +67,12 @@ impl Connections {
         self.changed.notify_all();
     }
 
-    /// How many there are.
+    /// Returns how many connections are open.
     pub fn count<X: Wait>(&self, rt: &X) -> usize {
         self.held.lock(rt).connections.len()
     }
 
-    /// Reads no more from any of them, and waits until each has ended after its answers have left.
+    /// Stops reading from all of them, and waits until each has ended after its answers have left.
     pub fn finish_all<X: Wait>(&self, rt: &X) {
         let mut open = self.held.lock(rt);
         for (_, connection) in open.connections.iter() {

@@ -1,5 +1,5 @@
-//! The server with threads: its listener, and the connections that it has open. In `settings` what it is set to, and
-//! what it refuses by that; in `connection` one connection and its threads.
+//! The server with threads: its listener, and the connections that it has open. The module `settings` has its settings,
+//! and the calls that it refuses by them. The module `connection` has one connection and its threads.
 #![tactic(auto)]
 
 pub mod accept;

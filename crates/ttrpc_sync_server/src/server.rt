@@ -30,8 +30,8 @@ use ttrpc_server::Methods;
 use ttrpc_sync::{Host, Runtime};
 use ttrpc_transport::{NoWatch, PipeConnection, PipeListener};
 
-/// A server with threads, which contracts see as what it was built with: its settings, its listener, its handlers, its hook
-/// and its watch. Once it has started it serves the methods that are registered, at one address.
+/// A server with threads. Contracts see it as the parts it was built with: its settings, its listener, its handlers, its hook and its
+/// watch. After it has started it serves the methods that are registered, at one address.
 #[derive(Drop)]
 pub struct Server<R: Host, H: Drop, A: Drop, W: Drop = NoWatch> {
     rt: R,
@@ -60,13 +60,13 @@ impl<R: Host, H: Drop, A: Drop, W: Drop> Model for Server<R, H, A, W> {
       watch = arc_value server.watch;
     } };
 
-    // It has a listener exactly where it is bound, and a thread that accepts connections exactly where it listens.
+    // The server has a listener exactly if it is bound, and a thread that accepts connections exactly if it listens.
     ghost invariant = { λ server. (IsSome server.listener ↔ (server.settings.is_bound ≡ true))
         × (IsSome server.listening ↔ (server.settings.is_listening ≡ true)) };
 }
 
 impl<R: Host, H: Drop> Server<R, H, NoHook, NoWatch> {
-    /// A server without services and without an address.
+    /// Makes a server without services and without an address.
     pub fn new(rt: R) -> Result<Server<R, H, NoHook, NoWatch>>
         ensures new { IfOk result IsNewServer }
         ensures err { IfErr result (λ e. e ≡ NoMemory) }
@@ -87,19 +87,21 @@ impl<R: Host, H: Drop> Server<R, H, NoHook, NoWatch> {
 }
 
 impl<R: Host, H: Drop, A: Drop, W: Drop> Server<R, H, A, W> {
-    /// Its settings.
+    /// Returns the server's settings.
     pub fn settings(&self) -> &Settings
         ensures { result.now ≡ self.now.settings }
     {
         &self.settings
     }
 
-    /// Listens at an address, `unix://PATH` or `tcp://IP:PORT`. Whether each write by TCP goes out at once is `nodelay`. A
-    /// second address is refused. An address that names no place is `Others`, and a fault of the system `Nix`.
+    /// Binds the server to an address, `unix://PATH` or `tcp://IP:PORT`. With `nodelay`, each write by TCP goes out at once. Refuses a
+    /// second address. The error is `Others` if the address names no place, and `Nix` if the system reports a fault.
     pub fn bind(self, sockaddr: &str, nodelay: bool) -> Result<Server<R, H, A, W>>
     where
         R: Files + Net<Listener = TcpListener, Stream = TcpStream>,
-        ensures ok { IfOk result (λ server. (listener : Listens) × IsOpenedAt sockaddr.now listener.domain × (listener.nodelay ≡ nodelay) × (server ≡ bound self listener)) }
+        ensures ok { IfOk result
+            (λ server. (listener : Listens) × IsOpenedAt sockaddr.now listener.domain
+            × (listener.nodelay ≡ nodelay) × (server ≡ bound self listener)) }
         ensures refused { Refuses (bind_refusal self.settings) (IsNotBound sockaddr.now) result }
     {
         self.settings.check_bind(self.rt.alloc())?;
@@ -107,7 +109,7 @@ impl<R: Host, H: Drop, A: Drop, W: Drop> Server<R, H, A, W> {
         self.add_listener(listener)
     }
 
-    /// Accepts the connections of this listener. A second one is refused.
+    /// Sets the listener by which the server accepts connections. Refuses a second one.
     pub fn add_listener(mut self, listener: PipeListener) -> Result<Server<R, H, A, W>>
         ensures ok { IfOk result (λ server. server ≡ bound self listener) }
         ensures refused { Refuses (bind_refusal self.settings) (λ e. e ≡ NoMemory) result }
@@ -119,9 +121,10 @@ impl<R: Host, H: Drop, A: Drop, W: Drop> Server<R, H, A, W> {
         Ok(self)
     }
 
-    /// Where it listens by TCP, and `None` at a path or without an address. A fault of the system is `Nix`.
+    /// Returns the server's address by TCP, and `None` if it is bound to a path or has no address. A fault of the system is `Nix`.
     pub fn local_addr(&self) -> Result<Option<SocketAddr>>
-        ensures ok { IfOk result (λ address. IsSome address ↔ (domain_of self.now ≡ Some ADomain.Tcp)) }
+        ensures ok { IfOk result
+            (λ address. IsSome address ↔ (domain_of self.now ≡ Some ADomain.Tcp)) }
         ensures err { IfErr result IsFault }
     {
         match &self.listener {
@@ -130,15 +133,16 @@ impl<R: Host, H: Drop, A: Drop, W: Drop> Server<R, H, A, W> {
         }
     }
 
-    /// Serves these methods too, each under its path, `/SERVICE/METHOD`. A text that is no path is refused, as `Methods::add`
-    /// does it. Once the server has started its services are fixed, and more are refused.
+    /// Adds these methods to the server, each under its path, `/SERVICE/METHOD`. Refuses a text that is no path, as `Methods::add` does.
+    /// After the server has started its services are fixed, and more are refused.
     pub fn register_service(mut self, methods: BTreeMap<String, H>) -> Result<Server<R, H, A, W>>
         ensures ok { IfOk result (Registers self methods.entries) }
-        ensures refused { Refuses (register_refusal self.settings) (IsNotRegistered methods.entries) result }
+        ensures refused { Refuses (register_refusal self.settings)
+            (IsNotRegistered methods.entries) result }
     {
         let alloc = self.rt.alloc();
         self.settings.check_register(alloc)?;
-        // Nobody shares them before the first start.
+        // No other owner shares the methods before the first start.
         let Some(open) = Arc::get_mut(&mut self.methods) else {
             return Err(Error::NoMemory);
         };
@@ -146,33 +150,37 @@ impl<R: Host, H: Drop, A: Drop, W: Drop> Server<R, H, A, W> {
         Ok(self)
     }
 
-    /// How many workers a connection starts with, and is filled up to: 3, where nothing is set.
+    /// Sets how many workers a connection starts with, and is filled up to. The default is 3.
     pub fn set_thread_count_default(mut self, count: usize) -> Server<R, H, A, W>
-        ensures { result ≡ record self { settings = record self.settings { thread_count_default = count } } }
+        ensures { result
+            ≡ record self { settings = record self.settings { thread_count_default = count } } }
     {
         self.settings.thread_count_default = count;
         self
     }
 
-    /// A connection is filled up where fewer workers wait for a job: 1, where nothing is set.
+    /// Sets the number of waiting workers below which a connection is filled up. The default is 1.
     pub fn set_thread_count_min(mut self, count: usize) -> Server<R, H, A, W>
-        ensures { result ≡ record self { settings = record self.settings { thread_count_min = count } } }
+        ensures { result
+            ≡ record self { settings = record self.settings { thread_count_min = count } } }
     {
         self.settings.thread_count_min = count;
         self
     }
 
-    /// More workers of a connection don't wait for a job: 5, where nothing is set.
+    /// Sets how many workers of a connection may wait for a job. The default is 5.
     pub fn set_thread_count_max(mut self, count: usize) -> Server<R, H, A, W>
-        ensures { result ≡ record self { settings = record self.settings { thread_count_max = count } } }
+        ensures { result
+            ≡ record self { settings = record self.settings { thread_count_max = count } } }
     {
         self.settings.thread_count_max = count;
         self
     }
 
-    /// How long it waits to accept again, where the system gives no connection: 10 seconds, where nothing is set.
+    /// Sets how long the server waits before it accepts again, after the system gave no connection. The default is 10 seconds.
     pub fn set_accept_retry_interval(mut self, interval: Duration) -> Server<R, H, A, W>
-        ensures { result ≡ record self { settings = record self.settings { accept_retry_interval = interval } } }
+        ensures { result
+            ≡ record self { settings = record self.settings { accept_retry_interval = interval } } }
     {
         self.settings.accept_retry_interval = interval;
         self
@@ -180,7 +188,8 @@ impl<R: Host, H: Drop, A: Drop, W: Drop> Server<R, H, A, W> {
 
     /// Sets how many jobs of a connection may wait to be begun. While more wait, the connection isn't read. `None` sets no limit.
     pub fn set_waiting_jobs(mut self, count: Option<u64>) -> Server<R, H, A, W>
-        ensures { result ≡ record self { settings = record self.settings { waiting_jobs = count } } }
+        ensures { result
+            ≡ record self { settings = record self.settings { waiting_jobs = count } } }
     {
         self.settings.waiting_jobs = count;
         self
@@ -189,7 +198,8 @@ impl<R: Host, H: Drop, A: Drop, W: Drop> Server<R, H, A, W> {
     /// Sets how many bytes of jobs may wait to be begun. While more wait, their connection isn't read. The bytes are those of the frames
     /// that came since no job waited, less the frames of the jobs that have begun since. `None` sets no limit.
     pub fn set_waiting_bytes(mut self, count: Option<u64>) -> Server<R, H, A, W>
-        ensures { result ≡ record self { settings = record self.settings { waiting_bytes = count } } }
+        ensures { result
+            ≡ record self { settings = record self.settings { waiting_bytes = count } } }
     {
         self.settings.waiting_bytes = count;
         self
@@ -213,10 +223,11 @@ impl<R: Host, H: Drop, A: Drop, W: Drop> Server<R, H, A, W> {
         self
     }
 
-    /// Lets this hook look at each connection first. What it gives after 30 seconds comes too late, and the connection is
-    /// closed; one that never returns holds its connection, and `disconnect`, for ever.
+    /// Sets a hook that looks at each connection first. If the hook returns after more than 30 seconds, it is too late, and the connection
+    /// is closed. A hook that never returns holds its connection, and `disconnect`, forever.
     pub fn set_accept_hook<B: Drop>(self, hook: B) -> Result<Server<R, H, B, W>>
-        ensures ok { IfOk result (λ server. server ≡ record { settings = self.settings; listener = self.listener; handlers = self.handlers; hook = hook; watch = self.watch }) }
+        ensures ok { IfOk result (λ server. server
+            ≡ record { settings = self.settings; listener = self.listener; handlers = self.handlers; hook = hook; watch = self.watch }) }
         ensures err { IfErr result (λ e. e ≡ NoMemory) }
     {
         let Server {
@@ -243,9 +254,10 @@ impl<R: Host, H: Drop, A: Drop, W: Drop> Server<R, H, A, W> {
         })
     }
 
-    /// Has this watch told of faults that callers can't see, of the connections that it accepts from the next start on.
+    /// Sets the watch that learns of faults that callers can't see. It watches the connections that are accepted from the next start on.
     pub fn set_watch<B: Drop>(self, watch: B) -> Result<Server<R, H, A, B>>
-        ensures ok { IfOk result (λ server. server ≡ record { settings = self.settings; listener = self.listener; handlers = self.handlers; hook = self.hook; watch = watch }) }
+        ensures ok { IfOk result (λ server. server
+            ≡ record { settings = self.settings; listener = self.listener; handlers = self.handlers; hook = self.hook; watch = watch }) }
         ensures err { IfErr result (λ e. e ≡ NoMemory) }
     {
         let Server {
@@ -272,31 +284,32 @@ impl<R: Host, H: Drop, A: Drop, W: Drop> Server<R, H, A, W> {
         })
     }
 
-    /// How many connections it has open.
+    /// Returns how many connections the server has open.
     pub fn connection_count(&self) -> usize {
         self.connections.count(&self.rt)
     }
 
-    /// Waits until a `Stopper` of it has asked. A program that serves until then shuts it down afterwards.
+    /// Waits until a `Stopper` of this server has asked. A program that serves until then shuts the server down afterwards.
     pub fn wait(&self) {
         self.stop.wait_to_shut_down(&self.rt);
     }
 
-    /// What ends its `wait`, for another thread or a handler.
+    /// Makes a `Stopper` that ends the server's `wait`, for another thread or a handler.
     pub fn stopper(&self) -> Result<Stopper<R>>
         ensures err { IfErr result (λ e. e ≡ NoMemory) }
     {
         Stopper::new(&self.rt, &self.stop)
     }
 
-    /// What each of its connections is served with: all that it was built with.
+    /// Makes the service for each connection, of all parts that the server was built with.
     fn service(&self) -> Result<Service<H, A, W>>
-        // its settings, its handlers, its hook and its watch
+        // the server's settings, its handlers, its hook and its watch
         ensures settings { IfOk result (λ service. service.settings ≡ self.now.settings) }
-        ensures handlers { IfOk result (λ service. arc_value service.serving.methods ≡ self.now.handlers) }
+        ensures handlers { IfOk result
+            (λ service. arc_value service.serving.methods ≡ self.now.handlers) }
         ensures hook { IfOk result (λ service. arc_value service.hook ≡ self.now.hook) }
         ensures watch { IfOk result (λ service. arc_value service.serving.watch ≡ self.now.watch) }
-        // An error is want of memory.
+        // An error means that memory was refused.
         ensures err { IfErr result (λ e. e ≡ NoMemory) }
     {
         let serving = Serving {
@@ -314,8 +327,7 @@ impl<R: Host, H: Drop, A: Drop, W: Drop> Server<R, H, A, W> {
 }
 
 impl<R: Host + Threads, H: Drop, A: Drop, W: Drop> Server<R, H, A, W> {
-    /// Accepts no more connections; it goes on serving open ones. The server has no address then. Where it doesn't
-    /// listen nothing happens.
+    /// Stops accepting connections, and goes on serving open ones. The server then has no address. If it doesn't listen, nothing happens.
     pub fn stop_listen(mut self) -> Server<R, H, A, W>
         ensures { result ≡ stopped self }
     {
@@ -355,8 +367,8 @@ where
     H: SharedHandler<R, O, I>,
     W: SharedWatch,
 {
-    /// Begins to listen, once the counts of workers are in order: the default below the greatest, and above the least. From
-    /// here on its services are fixed.
+    /// Begins to listen, if the counts of workers are in order: the default must be below the greatest and above the least. From here on
+    /// the services are fixed.
     pub fn start(&mut self) -> Result<()>
         ensures ok { OnOk result (self.new ≡ started self.old) }
         ensures refused { Refuses (start_refusal self.old.settings) IsNotStarted result }
@@ -366,8 +378,7 @@ where
         self.start_listen()
     }
 
-    /// Begins to listen. A server without an address, or one that listens already, is refused. From here on its services
-    /// are fixed.
+    /// Begins to listen. Refused if the server has no address, or listens already. From here on the services are fixed.
     pub fn start_listen(&mut self) -> Result<()>
         ensures ok { OnOk result (self.new ≡ started self.old) }
         ensures refused { Refuses (listen_refusal self.old.settings) IsNotStarted result }
@@ -410,7 +421,7 @@ where
     }
 }
 
-/// Serves each connection that is accepted, until the server is to listen no more.
+/// Serves each accepted connection, until the server is to listen no more.
 fn listen<R, O, I, H, A, W>(
     rt: &R,
     listener: &Arc<PipeListener, Global>,
@@ -431,7 +442,7 @@ where
         let Some(stream) = next else {
             return;
         };
-        // Where there is no memory or no thread for it, a connection is closed.
+        // If there is no memory or no thread for a connection, it is closed.
         if let Err(error) = serve(rt, service, stream) {
             watch.connection_dropped(&error);
         }

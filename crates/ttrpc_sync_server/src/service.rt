@@ -1,4 +1,4 @@
-//! What a server uses for each connection.
+//! The parts of a server that each connection uses.
 ghost use Rattle.std.specs.Prelude.{◌≡◌, IfErr, IfOk, false};
 ghost use Rattle.std.specs.Arc.{arc_value};
 ghost use Rattle.ttrpc_proto.specs.declared.error.Error.TheVariants.{NoMemory};
@@ -26,7 +26,7 @@ use ttrpc_server::{Methods, Rules, ServerCore};
 use ttrpc_sync::{Host, Link, PoolCore, Runtime};
 use ttrpc_transport::{PipeConnection, Watch};
 
-/// What a server uses for each connection.
+/// The parts of a server that each connection uses.
 #[derive(Drop)]
 pub struct Service<H: Drop, A: Drop, W: Drop> {
     pub serving: Serving<H, W>,
@@ -37,7 +37,7 @@ pub struct Service<H: Drop, A: Drop, W: Drop> {
 }
 
 impl<H: Drop, A: Drop, W: Drop> Service<H, A, W> {
-    /// The connection of this number has ended, and its descriptor is free.
+    /// Removes the connection of this number after it has ended. Its descriptor is free then.
     fn remove<R: Host>(&self, rt: &R, number: u64) {
         self.connections.remove(rt, number);
         self.stop.note_end(rt);
@@ -79,7 +79,7 @@ where
     }
 }
 
-/// Adds this connection, which has no threads yet, to those that are open.
+/// Adds this connection, which has no threads yet, to the open connections.
 fn add<R: Host>(rt: &R, connections: &Connections, stream: PipeConnection) -> Result<Numbered>
     ensures { IfErr result (λ e. e ≡ NoMemory) }
 {
@@ -118,7 +118,7 @@ where
     service.remove(rt, number);
 }
 
-/// Serves this connection, where the hook accepts it and memory is found.
+/// Serves this connection if the hook accepts it and memory is found.
 fn admit_and_keep<R, O, I, H, A, W>(
     rt: &R,
     service: &Arc<Service<H, A, W>, Global>,
@@ -149,7 +149,7 @@ where
     }
 }
 
-/// Opens a connection that its hook accepted, with what the hook told of it.
+/// Opens a connection that its hook accepted, with the hook's output.
 fn open<R, O, I, H, A, W>(
     rt: &R,
     service: &Service<H, A, W>,
@@ -181,8 +181,8 @@ where
     Ok(Arc::new(alloc, conn)?)
 }
 
-/// The core of a connection that is served by these methods, and whose bytes go through these halves. What is known of the
-/// connection stands beside the lock, and not in the core.
+/// Makes the core of a connection that is served by these methods, with these halves for its bytes. The connection's data lies beside the
+/// lock, and not in the core.
 fn core_of<H, O, I>(
     alloc: Global,
     methods: &Methods<H>,
@@ -198,7 +198,8 @@ where
 {
     let registry = methods.registry(alloc)?;
     let context = ConnectionContext::of_halves(alloc, outbound, inbound);
-    Ok(ServerCore::new(alloc, Rules::Sync, registry, context))
+    let core = ServerCore::new(alloc, Rules::Sync, registry, context)?;
+    Ok(core)
 }
 
 /// Makes the backlog of a new connection, with the server's two limits.
@@ -214,7 +215,7 @@ fn backlog_of(settings: &Settings) -> Backlog
     Backlog::new(settings.waiting_jobs, settings.waiting_bytes)
 }
 
-/// The workers of a connection, of whom none waits yet, by the server's three counts.
+/// Makes the pool of a connection's workers, with the server's three counts. None of them waits yet.
 fn pool_of(settings: &Settings) -> PoolCore
     ensures { result ≡ record {
       default = settings.now.thread_count_default;

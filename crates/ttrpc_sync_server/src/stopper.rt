@@ -1,4 +1,4 @@
-//! How a program that serves is told to end.
+//! How a program that serves is asked to end.
 ghost use Rattle.std.specs.Prelude.{◌≡◌, IfErr};
 ghost use Rattle.ttrpc_proto.specs.declared.error.Error.TheVariants.{NoMemory};
 
@@ -8,7 +8,7 @@ use std::sync::Arc;
 use ttrpc_proto::Result;
 use ttrpc_sync::Host;
 
-/// What ends the `wait` of a server. Another thread may have it, or a handler.
+/// A handle that ends the `wait` of a server. Another thread may have it, or a handler.
 #[derive(Drop)]
 pub struct Stopper<R: Host> {
     rt: R,
@@ -25,7 +25,7 @@ impl<R: Host> Stopper<R> {
         })
     }
 
-    /// Has `wait` return, now and whenever it is called. The server goes on until its owner shuts it down.
+    /// Makes `wait` return, now and whenever it is called. The server goes on until its owner shuts it down.
     pub fn stop(&self) {
         self.stop.ask_to_shut_down(&self.rt);
     }

@@ -11,11 +11,11 @@ abbrev pub listening_domain : Listening → Domain
 listening_domain (Tcp _) = TcpDomain
 listening_domain (Unix _) = UnixDomain
 
--- what contracts see of a listener: its domain, and whether each write of its connections by TCP is to go out at once
+-- a listener as contracts see it: its domain, and whether each write of its connections by TCP is to go out at once
 pub record Listens : Type 0 where
   pub domain : Domain
   pub nodelay : Bool
 
--- a listener of this domain that was told this of the writes of its connections
+-- a listener of this domain with this setting for the writes of its connections
 abbrev pub listens : Domain → Bool → Listens
 listens domain nodelay = record { domain = domain; nodelay = nodelay }

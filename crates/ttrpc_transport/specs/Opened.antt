@@ -1,4 +1,4 @@
--- What comes of an address where a socket is bound or connected.
+-- The results of binding or connecting a socket by its address.
 -- Source: this project's.
 use Rattle.std.specs.Prelude.{◌≡◌, ◌⊎◌, ℕ, List}
 use Rattle.ttrpc_transport.specs.declared.address.domain.Domain.{Domain}
@@ -14,7 +14,7 @@ abbrev pub place_domain : Place → Domain
 place_domain (Tcp _) = TcpDomain
 place_domain (Unix _) = UnixDomain
 
--- the address names a place, and the socket is of its domain
+-- the address names a place, and the socket is of the place's domain
 abbrev pub IsOpenedAt : List ℕ → Domain → Type 0
 IsOpenedAt addr domain = (place : Place) × IsPlace addr place × (domain ≡ place_domain place)
 

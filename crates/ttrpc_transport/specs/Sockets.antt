@@ -1,4 +1,4 @@
--- Streams, and what a call on a socket may fail with.
+-- Streams, and the errors that a call on a socket may return.
 -- Source: this project's.
 use Rattle.std.specs.Prelude.{◌≡◌}
 use Rattle.std.specs.declared.io.ErrorKind.{ErrorKind}
@@ -20,6 +20,6 @@ domain_of (Unix _) = UnixDomain
 abbrev pub IsFault : Error → Type 0
 IsFault e = (kind : ErrorKind) × (e ≡ Nix kind)
 
--- the system refused, for more than this try
+-- the system refused, not only for this try
 abbrev pub IsLastingFault : Error → Type 0
 IsLastingFault e = (kind : ErrorKind) × (e ≡ Nix kind) × ¬ (IsPassing InterruptedOrBlocked kind)

@@ -20,15 +20,15 @@ use std::sync::atomic::{AtomicBool, Ordering};
 use std::time::Duration;
 use ttrpc_proto::{Passing, Result};
 
-/// How many milliseconds `ready` waits.
+/// The longest wait of `ready`, in milliseconds.
 const READY_TIME: u64 = 10;
 
 /// A client's connection, which contracts see as its domain. Threads may share it: each call takes it by reference.
 #[derive(Drop)]
 pub struct ClientConnection {
     stream: Stream,
-    // The same stream, at whose next bytes one can look. std has that of TCP alone, and the system of any stream. One
-    // thread looks at a time, since the limit of its wait is that of each look.
+    // The same stream, as a handle by which a thread looks at the next bytes without taking them. std allows that only for TCP, and the
+    // system for any stream. One thread looks at a time, since the limit of a wait applies to every look.
     probe: Mutex<TcpStream>,
     is_closed: AtomicBool,
 }
@@ -43,8 +43,8 @@ impl Model for ClientConnection {
 }
 
 impl ClientConnection {
-    /// Connects to the address. Whether each write by TCP goes out at once is `nodelay`. An address that names no place is
-    /// `Others`, and a fault of the system `Nix`.
+    /// Connects to the address. With `nodelay`, each write by TCP goes out at once. The error is `Others` if the address names no place,
+    /// and `Nix` if the system reports a fault.
     pub fn client_connect<R>(
         rt: &R,
         alloc: Global,
@@ -60,7 +60,7 @@ impl ClientConnection {
         ClientConnection::new(connect(rt, place, nodelay)?)
     }
 
-    /// The client's connection that this stream is. A fault of the system is `Nix`.
+    /// Makes the client's connection of this stream. A fault of the system is `Nix`.
     pub fn new(stream: Stream) -> Result<ClientConnection>
         ensures ok { IfOk result (λ made. made ≡ domain_of stream) }
         ensures err { IfErr result IsFault }
@@ -78,8 +78,8 @@ impl ClientConnection {
         })
     }
 
-    /// Waits for bytes, or for the other side to end, 10 milliseconds at most once no other thread does. `None`: nothing came, or the wait was
-    /// interrupted. Once the connection or its receiver is closed the error `pipe closed` is answered.
+    /// Waits for bytes, or for the other side to end: at most 10 milliseconds, counted from when no other thread waits here. Returns `None`
+    /// if nothing came, or if the wait was interrupted. After the connection or its receiver is closed, the error is `pipe closed`.
     pub fn ready(&self) -> io::Result<Option<()>>
         ensures { IfErr result (λ e. ¬ (IsPassing Passing.InterruptedOrBlocked (error_kind e))) }
     {
@@ -94,7 +94,7 @@ impl ClientConnection {
         }
     }
 
-    // A thread that looks beside another waits for it, without a handle for waiting: that takes 10 milliseconds at most.
+    // A thread that looks beside another waits for it, without a handle for waiting. This wait takes at most 10 milliseconds.
     fn wait_for_bytes(&self) -> io::Result<usize> {
         for _ in 0..u64::MAX {
             if let Some(probe) = self.probe.try_lock() {
@@ -105,7 +105,7 @@ impl ClientConnection {
         Err(ErrorKind::WouldBlock.into())
     }
 
-    /// The connection to be read and written, which shares the stream. A fault of the system is `Nix`.
+    /// Returns the connection to be read and written, which shares the stream. A fault of the system is `Nix`.
     pub fn get_pipe_connection(&self) -> Result<PipeConnection>
         ensures ok { IfOk result (λ connection. connection ≡ self.now) }
         ensures err { IfErr result IsFault }
@@ -114,7 +114,7 @@ impl ClientConnection {
         Ok(PipeConnection::new(stream))
     }
 
-    /// From here on `ready` answers that the connection is closed. It can still be read and written.
+    /// Closes the receiver: from here on `ready` reports that the connection is closed. The connection can still be read and written.
     pub fn close_receiver(&self) -> Result<()>
         ensures { result ≡ Ok tt }
     {
@@ -122,8 +122,8 @@ impl ClientConnection {
         Ok(())
     }
 
-    /// Ends the connection for both sides, and wakes each thread that reads it or writes to it. The descriptor is closed as
-    /// the last handle of the stream is dropped. A fault of the system is `Nix`. To close it again does nothing.
+    /// Ends the connection for both sides, and wakes each thread that reads it or writes to it. The descriptor is closed when the last
+    /// handle of the stream is dropped. A fault of the system is `Nix`. Closing the connection again does nothing.
     pub fn close(&self) -> Result<()>
         ensures { IfErr result IsFault }
     {
@@ -132,7 +132,7 @@ impl ClientConnection {
     }
 }
 
-// Waits for bytes. The limit is set for this wait alone, since each read of the connection would have it.
+// Waits for bytes. The limit is set only for this wait, since otherwise each read of the connection would have it.
 fn look(probe: &TcpStream) -> io::Result<usize> {
     probe.set_read_timeout(Some(Duration::from_millis(READY_TIME)))?;
     let peeked = probe.peek(&mut [0u8; 1]);

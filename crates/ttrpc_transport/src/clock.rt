@@ -4,7 +4,8 @@ ghost use Rattle.ttrpc_transport.specs.Sockets.{IsFault};
 use std::time::Clock;
 use ttrpc_proto::{Error, Result};
 
-/// The current time, in nanoseconds since some start, the same for all moments. A clock that can't be read is `Nix`.
+/// Returns the current time, in nanoseconds since a start that is the same for all moments. A clock that can't be read
+/// is `Nix`.
 pub fn moment<R: Clock>(rt: &R) -> Result<u64>
     ensures { IfErr result IsFault }
 {

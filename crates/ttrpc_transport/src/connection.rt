@@ -25,14 +25,14 @@ impl Model for PipeConnection {
 }
 
 impl PipeConnection {
-    /// The connection that this stream is.
+    /// Makes the connection of this stream.
     pub fn new(stream: Stream) -> PipeConnection
         ensures { result ≡ domain_of stream }
     {
         PipeConnection { stream }
     }
 
-    /// The stream that the connection is.
+    /// Returns the stream of the connection.
     pub fn into_stream(self) -> Stream
         ensures { domain_of result ≡ self }
     {
@@ -49,8 +49,8 @@ impl PipeConnection {
         self.stream.receive(buf).map_err(fault)
     }
 
-    /// Writes some bytes of the buffer, of its front. A write that was interrupted or would block is tried again. A fault
-    /// of the system is `Nix`.
+    /// Writes some of the buffer's bytes, from its front. A write that was interrupted or would block is tried again. A fault of the system
+    /// is `Nix`.
     pub fn write(&self, buf: &[u8]) -> Result<usize>
         ensures bound { WritesAtMost result buf.now }
         ensures err { IfErr result IsLastingFault }
@@ -58,22 +58,22 @@ impl PipeConnection {
         self.stream.send(buf).map_err(fault)
     }
 
-    /// Whether each write goes out at once: by TCP as it was set, and at a path always. A fault of the system is `Nix`.
+    /// Returns whether each write goes out at once: by TCP as it was set, and at a path always. A fault of the system is `Nix`.
     pub fn nodelay(&self) -> Result<bool>
         ensures { IfErr result IsFault }
     {
         self.stream.nodelay().map_err(fault)
     }
 
-    /// Ends the connection for both sides, and wakes each thread that reads it or writes to it. The descriptor is closed as
-    /// the connection is dropped. To close it again does nothing.
+    /// Ends the connection for both sides, and wakes each thread that reads it or writes to it. The descriptor is closed when the
+    /// connection is dropped. Closing the connection again does nothing.
     pub fn close(&self) -> Result<()>
         ensures { IfErr result IsFault }
     {
         self.stream.close()
     }
 
-    /// Reads no more from the connection, and wakes each thread that does. What is written still goes out.
+    /// Stops reading from the connection, and wakes each thread that reads. Bytes that are written still go out.
     pub fn shutdown(&self) -> Result<()>
         ensures { IfErr result IsFault }
     {

@@ -1,6 +1,6 @@
-//! The sockets of the clients and servers with threads: a listener, the connections that it accepts, and a client's
-//! connection, by TCP or at a path. In `address` their addresses, as texts; `moment` reads the clock of all ends, and `Watch`
-//! receives the faults of all servers.
+//! The sockets of the clients and servers with threads: a listener, the connections that it accepts, and a client's connection, by TCP or
+//! at a path. The module `address` has their addresses, as texts. `moment` reads the clock of all ends, and `Watch` receives the faults of
+//! all servers.
 #![tactic(auto)]
 
 pub mod address;

@@ -1,4 +1,4 @@
-//! What accepts connections.
+//! The listener, which accepts connections.
 ghost use Rattle.std.specs.Prelude.{◌≡◌, ◌↔◌, IfErr, IfOk, IfSome, IsSome, false};
 ghost use Rattle.ttrpc_transport.specs.declared.address.domain.Domain.{Domain};
 ghost use Rattle.ttrpc_transport.specs.Listeners.{listens};
@@ -18,15 +18,15 @@ use std::rt::Files;
 use std::sync::atomic::{AtomicBool, Ordering};
 use ttrpc_proto::Result;
 
-/// What accepts connections, which contracts see as its domain and what it was told of delays. Threads may share it: each
-/// call takes it by reference.
+/// A listener, which accepts connections. Contracts see it as its domain and its setting of delays. Threads may share it: each call takes
+/// it by reference.
 #[derive(Drop)]
 pub struct PipeListener {
     socket: Listening,
-    // The same socket as a stream, which can be shut down: that wakes a thread which waits for a connection.
+    // The same socket as a stream, which can be shut down. A shutdown wakes a thread that waits for a connection.
     waker: Stream,
     is_closed: AtomicBool,
-    // Whether each write of its connections by TCP is to go out at once.
+    // True if each write of its connections by TCP is to go out at once.
     nodelay: bool,
 }
 
@@ -46,9 +46,9 @@ impl Model for PipeListener {
 }
 
 impl PipeListener {
-    /// Listens at the address. Whether each write of its connections by TCP goes out at once is `nodelay`. An address that
-    /// names no place is `Others`, and a fault of the system `Nix`: at a path where there is a file already that is
-    /// `AddrInUse`. The file that is made at a path stays.
+    /// Listens at the address. With `nodelay`, each write of its connections by TCP goes out at once. The error is `Others` if the address
+    /// names no place, and `Nix` if the system reports a fault. If a path has a file already, that fault is `AddrInUse`. The file that is
+    /// made at a path stays.
     pub fn new<R>(rt: &R, alloc: Global, sockaddr: &str, nodelay: bool) -> Result<PipeListener>
     where
         R: Files + Net<Listener = TcpListener, Stream = TcpStream>,
@@ -60,8 +60,8 @@ impl PipeListener {
         listen(rt, place, nodelay)
     }
 
-    /// Listens on a socket that a caller has bound by TCP. Whether its connections' writes go out at once is left to the system. A
-    /// fault of the system is `Nix`.
+    /// Listens on a socket that a caller has bound by TCP. The system decides whether its connections' writes go out at once. A fault of
+    /// the system is `Nix`.
     pub fn from_tcp(listener: TcpListener) -> Result<PipeListener>
         ensures ok { IfOk result (λ made. made ≡ listens Domain.Tcp false) }
         ensures err { IfErr result IsFault }
@@ -69,7 +69,7 @@ impl PipeListener {
         by_tcp(listener, false)
     }
 
-    /// Listens on a socket that a caller has bound at a path, as one that it was handed. A fault of the system is `Nix`.
+    /// Listens on a socket that a caller has bound at a path, for example one that the caller was handed. A fault of the system is `Nix`.
     pub fn from_unix(listener: UnixListener) -> Result<PipeListener>
         ensures ok { IfOk result (λ made. made ≡ listens Domain.Unix false) }
         ensures err { IfErr result IsFault }
@@ -77,7 +77,7 @@ impl PipeListener {
         at_path(listener, false)
     }
 
-    /// The IP address and port where it listens by TCP, and `None` at a path. A fault of the system is `Nix`.
+    /// Returns the IP address and port of a listener by TCP, and `None` for one at a path. A fault of the system is `Nix`.
     pub fn local_addr(&self) -> Result<Option<SocketAddr>>
         ensures ok { IfOk result (λ address. IsSome address ↔ (self.now.domain ≡ Domain.Tcp)) }
         ensures err { IfErr result IsFault }
@@ -88,9 +88,10 @@ impl PipeListener {
         }
     }
 
-    /// Waits for a connection. `None`: the listener was closed.
+    /// Waits for a connection. Returns `None` if the listener was closed.
     pub fn accept(&self) -> io::Result<Option<PipeConnection>>
-        ensures { IfOk result (λ accepted. IfSome accepted (λ connection. connection ≡ self.now.domain)) }
+        ensures { IfOk result
+            (λ accepted. IfSome accepted (λ connection. connection ≡ self.now.domain)) }
     {
         let accepted = self.accept_next();
         if self.is_closed.load(Ordering::SeqCst) {
@@ -117,8 +118,8 @@ impl PipeListener {
         }
     }
 
-    /// Accepts no more, and wakes each thread that waits for a connection. A file that was made at a path stays. A fault of
-    /// the system is `Nix`. To close it again does nothing.
+    /// Stops accepting, and wakes each thread that waits for a connection. A file that was made at a path stays. A fault of the system is
+    /// `Nix`. Closing the listener again does nothing.
     pub fn close(&self) -> Result<()>
         ensures { IfErr result IsFault }
     {

@@ -1,4 +1,4 @@
-//! A stream of bytes by TCP or at a path, and what the system refuses.
+//! A stream of bytes by TCP or at a path, and the refusals of the system.
 ghost use Rattle.std.specs.Prelude.{◌≡◌, IfErr, IfOk};
 ghost use Rattle.std.specs.Io.{ReadsAtMost, WritesAtMost};
 ghost use Rattle.std.specs.IoError.{error_kind};
@@ -11,7 +11,7 @@ use std::net::{Shutdown, TcpStream};
 use std::os::unix::net::UnixStream;
 use ttrpc_proto::{Error, Passing, Result, read_again, write_again};
 
-// What passes at a socket: the call is tried again.
+// The failures that pass at a socket: the call is tried again.
 const PASSING: Passing = Passing::InterruptedOrBlocked;
 
 /// A stream of bytes, by TCP or at a path.
@@ -21,7 +21,7 @@ pub enum Stream {
     Unix(UnixStream),
 }
 
-// The error for what the system refused.
+// Converts an error of the system.
 pub(crate) fn fault(error: io::Error) -> Error
     ensures { result ≡ Error.Nix (error_kind error) }
 {
@@ -29,7 +29,7 @@ pub(crate) fn fault(error: io::Error) -> Error
 }
 
 impl Stream {
-    // Another handle of the same stream.
+    // Makes another handle of the same stream.
     pub(crate) fn try_clone(&self) -> io::Result<Stream>
         ensures { IfOk result (λ clone. domain_of clone ≡ domain_of self.now) }
     {
@@ -42,7 +42,8 @@ impl Stream {
     // Reads some bytes. A read that was interrupted or would block is tried again.
     pub(crate) fn receive(&self, buf: &mut [u8]) -> io::Result<usize>
         ensures bound { ReadsAtMost result buf.new }
-        ensures err { IfErr result (λ e. ¬ (IsPassing Passing.InterruptedOrBlocked (error_kind e))) }
+        ensures err { IfErr result
+            (λ e. ¬ (IsPassing Passing.InterruptedOrBlocked (error_kind e))) }
     {
         match self {
             Stream::Tcp(stream) => {
@@ -59,7 +60,8 @@ impl Stream {
     // Writes some bytes. A write that was interrupted or would block is tried again.
     pub(crate) fn send(&self, buf: &[u8]) -> io::Result<usize>
         ensures bound { WritesAtMost result buf.now }
-        ensures err { IfErr result (λ e. ¬ (IsPassing Passing.InterruptedOrBlocked (error_kind e))) }
+        ensures err { IfErr result
+            (λ e. ¬ (IsPassing Passing.InterruptedOrBlocked (error_kind e))) }
     {
         match self {
             Stream::Tcp(stream) => {
@@ -73,7 +75,7 @@ impl Stream {
         }
     }
 
-    // Whether each write goes out at once. At a path it always does.
+    // Returns whether each write goes out at once. At a path it always does.
     pub(crate) fn nodelay(&self) -> io::Result<bool> {
         match self {
             Stream::Tcp(stream) => stream.nodelay(),
@@ -81,7 +83,7 @@ impl Stream {
         }
     }
 
-    // Ends the halves of the stream that are named, on each of its handles: who waits there wakes.
+    // Ends the halves of the stream that are named, on each of its handles. Threads that wait there wake.
     pub(crate) fn shutdown(&self, how: Shutdown) -> io::Result<()> {
         match self {
             Stream::Tcp(stream) => stream.shutdown(how),
@@ -89,7 +91,7 @@ impl Stream {
         }
     }
 
-    // Ends both halves. Where the other side, or a call before, has ended them, there is nothing left to do.
+    // Ends both halves. If the other side, or an earlier call, has ended them, there is nothing left to do.
     pub(crate) fn close(&self) -> Result<()>
         ensures { IfErr result IsFault }
     {
@@ -100,14 +102,14 @@ impl Stream {
     }
 }
 
-/// A read that was interrupted or would block is tried again.
+/// Reads, and tries again if the read was interrupted or would block.
 impl Read for &Stream {
     fn read(&mut self, buf: &mut [u8]) -> io::Result<usize> {
         self.receive(buf)
     }
 }
 
-/// A write that was interrupted or would block is tried again.
+/// Writes, and tries again if the write was interrupted or would block.
 impl Write for &Stream {
     fn write(&mut self, buf: &[u8]) -> io::Result<usize> {
         self.send(buf)

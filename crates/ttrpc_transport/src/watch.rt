@@ -1,15 +1,15 @@
-//! What receives a server's faults that its callers can't see.
+//! The watch, which receives a server's faults that its callers can't see.
 use ttrpc_proto::Error;
 
-/// Receives a server's faults that its callers can't see. Each method does nothing unless it is written. A method is called in the
-/// thread or the task that met the fault, which holds no lock then, and which goes on after the method has returned.
+/// A receiver of a server's faults that its callers can't see. Each method does nothing unless it is written. A method is called in the
+/// thread or the task that met the fault, which holds no lock then. The thread or task goes on after the method has returned.
 pub trait Watch {
     /// Receives the error (`Nix`) by which the system gave no connection. The server tries again.
     fn accept_failed(&self, error: &Error) {
         let _ = error;
     }
 
-    /// Receives the refusal of a connection by the hook: `accept hook failed: ` and what the hook's error prints (`Others`). The
+    /// Receives the refusal of a connection by the hook: `accept hook failed: ` and the text that the hook's error prints (`Others`). The
     /// connection is closed.
     fn hook_refused(&self, error: &Error) {
         let _ = error;

@@ -1,7 +1,7 @@
 //! How a test ends.
 use std::test::Fail;
 
-/// What a test returns.
+/// The result of a test.
 pub type Tested = Result<(), Fail>;
 
 /// Fails if the condition does not hold.

@@ -1,10 +1,10 @@
-//! How many waiters there are, and what each is told, in one thread.
+//! The number of waiters, and the knowledge of each, in one thread.
 
 use crate::tests::checks::{Tested, check};
 use crate::{new, with_timeout};
 use std::time::Duration;
 
-/// A waiter counts from when it is made until it is dropped. A drop of the notifier is told to each.
+/// A waiter counts from when it is made until it is dropped. Each waiter learns of a drop of the notifier.
 #[test]
 fn each_waiter_counts_until_its_drop(rt: HostRuntime) -> Tested {
     let (mut notifier, mut first) = new(rt.alloc())?;
@@ -20,7 +20,7 @@ fn each_waiter_counts_until_its_drop(rt: HostRuntime) -> Tested {
     check(are_counted && is_open && first.is_shutdown() && subscribed.is_shutdown())
 }
 
-/// After a shutdown each waiter is told of it, also one that is new.
+/// After a shutdown each waiter knows of it, even a new one.
 #[test]
 fn a_new_waiter_knows_of_a_shutdown(rt: HostRuntime) -> Tested {
     let (mut notifier, mut first) = with_timeout(rt.alloc(), Duration::from_millis(1))?;

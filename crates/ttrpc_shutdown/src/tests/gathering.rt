@@ -3,7 +3,8 @@
 use crate::new;
 use crate::tests::checks::{Tested, check};
 
-/// Without a waiter that is left, what is given back can be gathered again, once it is whole.
+/// Some of the waiters aren't gathered. The waiters that are given back can be gathered again,
+/// together with the others.
 #[test]
 fn all_waiters_that_are_left_are_gathered(rt: HostRuntime) -> Tested {
     let (mut notifier, mut first) = new(rt.alloc())?;
@@ -23,7 +24,7 @@ fn all_waiters_that_are_left_are_gathered(rt: HostRuntime) -> Tested {
     check(are_not_all && gathered == (2, false))
 }
 
-/// With no waiter left none is gathered. The result says that the flag is set.
+/// No waiter is gathered if none is left. The result says that the flag is set.
 #[test]
 fn no_waiter_is_gathered_where_none_is_left(rt: HostRuntime) -> Tested {
     let (mut notifier, first) = new(rt.alloc())?;

@@ -1,5 +1,5 @@
-//! The tests of the shutdown counters: what is counted, gathered and told in one thread, and what threads tell one
-//! another.
+//! The tests of the shutdown counters: counting, gathering and learning of a shutdown in one thread, and threads that
+//! inform one another.
 
 mod checks;
 mod counting;

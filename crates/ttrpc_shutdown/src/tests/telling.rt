@@ -1,11 +1,11 @@
-//! Threads that tell one another of shutdowns.
+//! Threads that inform one another of shutdowns.
 
 use crate::tests::checks::{Tested, check};
 use crate::{Waiter, new};
 use std::thread;
 use std::time::{Clock, Duration};
 
-/// Looks for the flag 10000 times at most, and sleeps for 1 ms behind each look.
+/// Looks for the flag at most 10000 times, and sleeps for 1 ms after each look.
 fn finds<X: Clock>(rt: &X, waiter: &mut Waiter) -> bool {
     for _ in 0..10_000u32 {
         if waiter.is_shutdown() {
@@ -16,8 +16,8 @@ fn finds<X: Clock>(rt: &X, waiter: &mut Waiter) -> bool {
     false
 }
 
-/// One thread shuts the first down and looks for the other's flag. The other looks for the first's flag, and shuts its
-/// own down then.
+/// One thread shuts the first notifier down and looks for the second's flag. The other thread looks for the first's
+/// flag, and then shuts the second down.
 #[test]
 fn threads_tell_each_other(rt: HostRuntime) -> Tested {
     let (mut first, mut of_first) = new(rt.alloc())?;

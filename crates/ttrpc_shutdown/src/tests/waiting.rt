@@ -10,7 +10,7 @@ fn a_while() -> Duration {
     Duration::from_millis(20)
 }
 
-/// Who waits for the flag wakes at `shutdown` and at the notifier's drop.
+/// A thread that waits for the flag wakes at `shutdown` and at the notifier's drop.
 #[test]
 fn a_shutdown_wakes_who_waits_for_it(rt: HostRuntime) -> Tested {
     for by_drop in [false, true] {
@@ -35,7 +35,7 @@ fn a_shutdown_wakes_who_waits_for_it(rt: HostRuntime) -> Tested {
     Ok(())
 }
 
-/// Who waits for all waiters to go wakes at the drop of the last one.
+/// A thread that waits for all waiters to go wakes at the drop of the last one.
 #[test]
 fn the_last_drop_wakes_who_waits_for_all(rt: HostRuntime) -> Tested {
     let (mut notifier, mut first) = new(rt.alloc())?;
@@ -54,7 +54,7 @@ fn the_last_drop_wakes_who_waits_for_all(rt: HostRuntime) -> Tested {
     check(left == 0)
 }
 
-/// A wait with a limit fails behind it with a text of its own, and is over as soon as no waiter is left.
+/// A wait with a limit fails after the limit with a text of its own, and ends as soon as no waiter is left.
 #[test]
 fn a_wait_has_its_limit(rt: HostRuntime) -> Tested {
     let (mut notifier, waiter) = with_timeout(rt.alloc(), a_while())?;

@@ -1,26 +1,26 @@
-//! When what was written is to leave.
+//! When the bytes that were written are to leave.
 ghost use Rattle.std.specs.Prelude.{◌≡◌, ◌+◌, ◌-◌, ◌^◌, min, false};
 ghost use Rattle.ttrpc_sync.specs.Batches.{is_due, with_loan};
 
-/// Behind so many bytes a batch leaves at the next end of a frame.
+/// The number of bytes from which a batch leaves at the next end of a frame.
 pub const BATCH_BYTES: usize = 32768;
 
-/// Behind so many loans a batch of the writer thread leaves at the next end of a frame.
+/// The number of loans from which a batch of the writer thread leaves at the next end of a frame.
 pub const BATCH_LOANS: u32 = 64;
 
-/// What was written since the writer was flushed last.
+/// The bytes that were written since the writer was flushed last.
 #[derive(Clone, Copy, Debug)]
 pub struct Batch {
-    /// How many bytes were written.
+    /// The number of bytes.
     pub bytes: usize,
-    /// By how many loans.
+    /// The number of loans they came from.
     pub loans: u32,
-    /// Whether they end with a frame.
+    /// True if the bytes end with a frame.
     pub ends_frame: bool,
 }
 
 impl Batch {
-    /// Nothing was written.
+    /// Makes an empty batch.
     pub fn new() -> Batch
         ensures { result ≡ record { bytes = 0; loans = 0; ends_frame = false } }
     {
@@ -31,7 +31,7 @@ impl Batch {
         }
     }
 
-    /// So many bytes of a loan were written, and whether they end a frame.
+    /// Adds `count` bytes of a loan, which end a frame if `ends_frame` is set.
     pub fn add(&mut self, count: usize, ends_frame: bool)
         ensures { self.new ≡ with_loan self.old count ends_frame }
     {
@@ -40,7 +40,8 @@ impl Batch {
         self.ends_frame = ends_frame;
     }
 
-    /// Whether it leaves now: it ends with a frame, and has `BATCH_BYTES`, or so many loans.
+    /// Returns whether the batch leaves now: it ends with a frame, and has at least `BATCH_BYTES`
+    /// bytes or at least `loans` loans.
     pub fn is_due(&self, loans: u32) -> bool
         ensures { result ≡ is_due self.now loans }
     {

@@ -1,5 +1,5 @@
-//! What both ends of a connection share: the turn to write, and the ports of its readers and writers. Each call of a port
-//! locks what stands under the connection's lock.
+//! The parts that both ends of a connection share: the turn to write, and the ports of its readers and writers. Each call of a port takes
+//! the connection's lock.
 
 mod batch;
 mod connected;

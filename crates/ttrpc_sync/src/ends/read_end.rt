@@ -1,4 +1,4 @@
-//! The port to which a connection's reader hands what it read.
+//! The port to which a connection's reader hands the bytes that it read.
 ghost use Rattle.std.specs.Prelude.{◌≡◌, ◌≤◌, ◌<◌, length, true, IfNone, IfSome, MatchBool};
 ghost use Rattle.ttrpc_sync.specs.declared.ports.PortState.{PortState};
 
@@ -8,7 +8,7 @@ use std::alloc::Global;
 use std::io;
 use std::sync::Wait;
 
-/// The port of a reader. It wakes whom a piece concerns once the lock is let go.
+/// The port of a reader. It wakes the threads that a piece concerns after it has released the lock.
 #[derive(Drop)]
 pub struct ReadEnd<'a, X: Wait, S: Connected> {
     rt: &'a X,
@@ -19,14 +19,15 @@ pub struct ReadEnd<'a, X: Wait, S: Connected> {
 }
 
 impl<X: Wait, S: Connected> ReadEnd<'_, X, S> {
-    /// Whether its thread still has the turn to read. It hasn't behind a piece whose reader was told not to read on.
+    /// Returns whether the port's thread still has the turn to read. It has lost the turn if the last piece ended its
+    /// reading.
     pub fn has_turn(&self) -> bool
         ensures { result ≡ self.now.has_turn }
     {
         self.has_turn
     }
 
-    /// The port for the thread that has the turn to read when a loop begins.
+    /// Makes the port for the thread that has the turn to read when a loop begins.
     pub fn new<'a>(rt: &'a X, alloc: Global, shared: &'a S) -> ReadEnd<'a, X, S>
         ensures { result.has_turn ≡ true }
     {
@@ -50,7 +51,8 @@ impl<X: Wait, S: Connected> ReadPort for ReadEnd<'_, X, S> {
 
     fn wants(&mut self) -> bool
         requires { self.old.state ≡ PortState.Open }
-        ensures state { MatchBool result (self.new.state ≡ PortState.Open) (self.new.state ≡ PortState.Stopped) }
+        ensures state { MatchBool result (self.new.state ≡ PortState.Open)
+            (self.new.state ≡ PortState.Stopped) }
         ensures turn { (result ≡ self.old.has_turn) × (self.new.has_turn ≡ self.old.has_turn) }
     {
         if !self.has_turn {
@@ -61,8 +63,9 @@ impl<X: Wait, S: Connected> ReadPort for ReadEnd<'_, X, S> {
 
     fn take(&mut self, piece: &[u8]) -> Option<usize>
         requires { self.old.state ≡ PortState.Open }
-        // The connection takes at least a byte of it, after it has waited for room where there is none, or has failed.
-        ensures some { IfSome result (λ n. (0 < n) × (n ≤ length piece.now) × (self.new.state ≡ PortState.Open)) }
+        // The connection takes at least one byte, after waiting for room if there is none, or it has failed.
+        ensures some { IfSome result
+            (λ n. (0 < n) × (n ≤ length piece.now) × (self.new.state ≡ PortState.Open)) }
         ensures failed { IfNone result (self.new.state ≡ PortState.Stopped) }
     {
         let mut guard = lock_soon(self.rt, self.shared.held());

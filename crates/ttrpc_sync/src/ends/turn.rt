@@ -1,30 +1,30 @@
-//! Whose turn it is to write.
+//! The turn to write.
 ghost use Rattle.std.specs.Prelude.{◌≡◌, true, false, if◌then◌else◌};
 ghost use Rattle.ttrpc_sync.specs.Turns.{given_back, next_of, turn_after, wakes_behind};
 
-/// Which of a connection's threads writes: one at a time. It stands under the connection's lock, so who has the turn is
-/// the one writer.
+/// The turn to write, which at most one thread of a connection has. It lies under the connection's lock, so the thread that has the turn is
+/// the only writer.
 #[derive(Debug, Drop)]
 pub struct Turn {
-    /// Whether a thread has it.
+    /// True if a thread has the turn.
     pub is_taken: bool,
-    /// Whether the writer thread sleeps and wasn't woken yet.
+    /// True if the writer thread sleeps and hasn't been woken yet.
     pub sleeps: bool,
 }
 
 /// The next action of a writer when nothing is lent.
 #[derive(Clone, Copy, Debug, PartialEq, Eq)]
 pub enum Next {
-    /// It writes: it has the turn, and bytes wait.
+    /// The writer writes: it has the turn, and bytes wait.
     Writes,
-    /// It ends, and has no turn any more.
+    /// The writer ends, and no longer has the turn.
     Leaves,
-    /// It waits to be woken, and has no turn any more.
+    /// The writer waits to be woken, and no longer has the turn.
     Sleeps,
 }
 
 impl Turn {
-    /// A turn that nobody has.
+    /// Makes a turn that no thread has.
     pub fn new() -> Turn
         ensures { result ≡ record { is_taken = false; sleeps = false } }
     {
@@ -34,7 +34,7 @@ impl Turn {
         }
     }
 
-    /// Takes it, and says whether that could be.
+    /// Takes the turn if it is free, and returns whether it was.
     pub fn take(&mut self) -> bool
         ensures result { result ≡ (if self.old.is_taken then false else true) }
         ensures taken { self.new ≡ record self.old { is_taken = true } }
@@ -46,8 +46,8 @@ impl Turn {
         true
     }
 
-    /// The next action of a writer when nothing is lent, who has the turn or hasn't: it writes where bytes wait and nobody else
-    /// has the turn. Otherwise it gives the turn back, and sleeps if it is to stay.
+    /// Decides the next action of a writer when nothing is lent. `has_turn` says whether this writer has the turn. It writes if bytes wait
+    /// and no other thread has the turn. Otherwise it gives the turn back, and sleeps if it is to stay.
     pub fn next(&mut self, has_turn: bool, stays: bool, bytes_wait: bool) -> Next
         ensures result { result ≡ next_of self.old.is_taken has_turn stays bytes_wait }
         ensures turn { self.new ≡ turn_after self.old has_turn stays bytes_wait }
@@ -66,7 +66,7 @@ impl Turn {
         Next::Sleeps
     }
 
-    /// Who wrote for itself gives it back. True: the writer thread is to be woken, since it is to write what is left.
+    /// Gives the turn back, for a thread that wrote its own frame. Returns true if the writer thread is to be woken to write the rest.
     pub fn give_back(&mut self, bytes_wait: bool) -> bool
         ensures result { result ≡ wakes_behind self.old bytes_wait }
         ensures turn { self.new ≡ given_back self.old bytes_wait }
@@ -75,11 +75,12 @@ impl Turn {
         bytes_wait && self.wakes()
     }
 
-    /// Something was queued. True: that thread is to be woken, which is said once for one sleep. Whoever has the turn
-    /// looks again before he gives it back, so then nobody is.
+    /// Reports that something was queued. Returns true if the writer thread is to be woken, at most once for each sleep. A thread that has
+    /// the turn looks again before it gives the turn back, so no thread is woken then.
     pub fn wakes(&mut self) -> bool
         ensures result { result ≡ (if self.old.is_taken then false else self.old.sleeps) }
-        ensures told { self.new ≡ record self.old { sleeps = if self.old.is_taken then self.old.sleeps else false } }
+        ensures told { self.new
+            ≡ record self.old { sleeps = if self.old.is_taken then self.old.sleeps else false } }
     {
         if self.is_taken || !self.sleeps {
             return false;

@@ -10,14 +10,14 @@ use crate::{PortState, WritePort, lock_soon, wait_soon};
 use std::io;
 use std::sync::Wait;
 
-/// No bytes.
+/// An empty loan.
 const NOTHING: Loan = Loan {
     count: 0,
     ends_frame: false,
 };
 
-/// The port of a writer. A report is made with the next loan, under one lock. It lends nothing where a batch is due, so
-/// that what was written leaves first, whatever else waits.
+/// The port of a writer. It reports written bytes together with the next loan, under one lock. If a batch is due, it lends nothing, so that
+/// the bytes written so far leave first, whatever else waits.
 #[derive(Drop)]
 pub struct WriteEnd<'a, X: Wait, S: Connected> {
     rt: &'a X,
@@ -31,16 +31,16 @@ pub struct WriteEnd<'a, X: Wait, S: Connected> {
 }
 
 impl<X: Wait, S: Connected> WriteEnd<'_, X, S> {
-    /// The port of the writer thread: it sleeps while there is nothing, or another has the turn. A batch leaves behind a
-    /// frame, once it has `BATCH_BYTES` bytes or `BATCH_LOANS` loans.
+    /// Makes the port of the writer thread. It sleeps while there is nothing to write, or another thread has the turn. A batch leaves at
+    /// the end of a frame once it has `BATCH_BYTES` bytes or `BATCH_LOANS` loans.
     pub fn staying<'a>(rt: &'a X, shared: &'a S) -> WriteEnd<'a, X, S>
         ensures { (result.stays ≡ true) × (result.has_turn ≡ false) }
     {
         WriteEnd::new(rt, shared, true)
     }
 
-    /// The port of a thread that took the turn, to write what it queued where nothing else waited: one frame. Then it
-    /// gives the turn back, and wakes the writer thread if others have queued more.
+    /// Makes the port of a thread that took the turn to write the frame it queued, when nothing else waited. The thread writes one frame.
+    /// Then it gives the turn back, and wakes the writer thread if other threads have queued more.
     pub fn leaving<'a>(rt: &'a X, shared: &'a S) -> WriteEnd<'a, X, S>
         ensures { (result.stays ≡ false) × (result.has_turn ≡ true) }
     {
@@ -62,7 +62,7 @@ impl<X: Wait, S: Connected> WriteEnd<'_, X, S> {
         }
     }
 
-    // Whether what was written is to leave before more is lent.
+    // Returns whether the bytes written so far are to leave before more is lent.
     fn is_due(&self) -> bool
         ensures { result ≡ is_due self.now.batch (if self.now.stays then BATCH_LOANS else 1) }
     {
@@ -93,13 +93,13 @@ impl<X: Wait, S: Connected> WriteEnd<'_, X, S> {
         }
     }
 
-    // Waits until it has the turn and bytes wait. False: it is to end, and has no turn any more.
+    // Waits until the thread has the turn and bytes wait. Returns false if the thread is to end; then it no longer has the turn.
     fn wait_for_bytes(&mut self) -> bool
         ensures { self.new ≡ record self.old { written = 0 } }
     {
         let mut guard = lock_soon(self.rt, self.shared.held());
         let mut has_turn = self.has_turn;
-        // Without the turn, what is lent is another's.
+        // Without the turn, the lent bytes are another thread's.
         if has_turn {
             guard.wrote(self.written);
         }
@@ -144,9 +144,10 @@ impl<X: Wait, S: Connected> WritePort for WriteEnd<'_, X, S> {
     fn wrote(&mut self, count: usize)
         requires state { self.old.state ≡ PortState.Open }
         requires lent { count ≤ self.old.loan.count }
-        // It is in the batch, and reported under the next lock.
+        // The bytes are in the batch, and are reported under the next lock.
         ensures { self.new ≡ record self.old {
-          batch = with_loan self.old.batch count (self.old.loan.ends_frame && nat_eq count self.old.loan.count);
+          batch = with_loan self.old.batch count
+              (self.old.loan.ends_frame && nat_eq count self.old.loan.count);
           written = count;
         } }
     {
@@ -164,11 +165,12 @@ impl<X: Wait, S: Connected> WritePort for WriteEnd<'_, X, S> {
 
     fn more(&mut self) -> bool
         requires { self.old.state ≡ PortState.Open }
-        // The loop goes on where the port says so.
-        ensures state { MatchBool result (self.new.state ≡ PortState.Open) (self.new.state ≡ PortState.Stopped) }
-        // What was written has left, so another batch begins.
+        // The loop goes on if the port returns true.
+        ensures state { MatchBool result (self.new.state ≡ PortState.Open)
+            (self.new.state ≡ PortState.Stopped) }
+        // All bytes written so far have left, so a new batch begins.
         ensures batch { self.new.batch ≡ record { bytes = 0; loans = 0; ends_frame = false } }
-        // Who ends has no turn any more.
+        // A thread that ends no longer has the turn.
         ensures turn { result ≡ false → self.new.has_turn ≡ false }
     {
         let is_due = self.is_due();

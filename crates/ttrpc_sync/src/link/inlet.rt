@@ -1,4 +1,4 @@
-//! Where the bytes of a connection come in.
+//! The side of a connection from which bytes are read.
 ghost use Rattle.std.specs.Prelude.{◌<◌, length};
 
 use crate::loops::read_pieces;
@@ -8,7 +8,7 @@ use std::io::{self, Read};
 use std::sync::{Arc, Wait};
 use ttrpc_transport::PipeConnection;
 
-/// How many bytes of a connection are read at once at most: a part of a frame as the other side writes it.
+/// The most bytes that are read at once: a part of a frame as the other side writes it.
 const PIECE: usize = PART_LIMIT;
 
 /// Reads from a connection.
@@ -18,7 +18,7 @@ pub struct Inlet {
 }
 
 impl Inlet {
-    /// The inlet of this connection.
+    /// Makes the inlet of this connection.
     pub fn new(stream: Arc<PipeConnection, Global>) -> Inlet {
         Inlet { stream }
     }
@@ -31,7 +31,7 @@ impl Read for Inlet {
     }
 }
 
-/// An inlet, and the room for a piece of what it reads.
+/// An inlet, and the room for one piece.
 #[derive(Drop)]
 pub struct Intake {
     inlet: Inlet,
@@ -40,7 +40,7 @@ pub struct Intake {
 }
 
 impl Intake {
-    /// The intake of this inlet.
+    /// Makes the intake of this inlet.
     pub fn new(alloc: Global, inlet: Inlet) -> Result<Intake, AllocError> {
         Ok(Intake {
             inlet,

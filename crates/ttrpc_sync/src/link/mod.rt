@@ -1,5 +1,5 @@
-//! A connection over a socket, as the threads of a client or a server share it: who reads it, who writes to it, and how
-//! all of them end. What they do to its core is in the ports.
+//! A connection over a socket, as the threads of a client or a server share it: which thread reads it, which thread writes to it, and how
+//! all of them end. The ports say how the threads change its core.
 
 mod inlet;
 mod outlet;
@@ -17,19 +17,19 @@ use std::alloc::{AllocError, Global};
 use std::sync::{Arc, Mutex, Wait};
 use ttrpc_transport::PipeConnection;
 
-/// A connection over a socket, with what its threads share. Each frame goes out by one write, or a batch of short ones does,
-/// where memory for that is found. No thread reads or writes while it has the lock of the core.
+/// A connection over a socket, with the state that its threads share. Each frame goes out by one write, or a batch of short frames does, if
+/// memory for that is found. No thread reads or writes while it holds the lock of the core.
 #[derive(Drop)]
 pub struct Link<S: Connected> {
     shared: S,
     stream: Arc<PipeConnection, Global>,
-    // Where threads write what they queued. Only who has the turn to write locks it.
+    // The outflow by which threads write the frames that they queued. Only the thread with the turn to write locks it.
     outflow: Mutex<Outflow>,
-    // Where bytes are read to. Only who has the turn to read locks it.
+    // The intake to which bytes are read. Only the thread with the turn to read locks it.
     intake: Mutex<Intake>,
 }
 
-// How many bytes are kept before they leave: a whole frame, unless each write goes out at once.
+// Returns how many bytes are kept before they leave: a whole frame, unless each write goes out at once.
 fn kept_of(stream: &PipeConnection, at_once: usize) -> usize {
     match stream.nodelay() {
         Ok(true) => at_once,
@@ -55,7 +55,7 @@ impl<S: Connected> Link<S> {
         })
     }
 
-    /// What the threads of the connection share.
+    /// Returns the state that the threads of the connection share.
     pub fn shared(&self) -> &S {
         &self.shared
     }
@@ -65,12 +65,12 @@ impl<S: Connected> Link<S> {
         let _ = self.stream.close();
     }
 
-    /// Reads the connection as long as the port wants more, and hands what it reads to it. The connection stays open.
+    /// Reads the connection as long as the port wants more, and hands the bytes to the port. The connection stays open.
     pub fn read_on<X: Wait, P: ReadPort>(&self, rt: &X, port: &mut P) {
         self.intake.lock(rt).read_on(rt, port);
     }
 
-    /// Writes what is queued, each time when there is something and nobody else writes, until the connection has failed.
+    /// Writes queued bytes until the connection has failed. Waits while nothing is queued, or another thread writes.
     pub fn write<X: Wait>(&self, rt: &X, alloc: Global) -> Result<(), AllocError> {
         let outlet = Outlet::new(Arc::try_clone(&self.stream)?);
         let mut gather = Gather::with_limit(alloc, outlet, kept_of(&self.stream, PART_LIMIT));

@@ -1,4 +1,4 @@
-//! Where the bytes of a connection go out.
+//! The side of a connection to which bytes are written.
 ghost use Rattle.std.specs.Prelude.{◌<◌, length};
 
 use crate::loops::write_pieces;
@@ -8,14 +8,14 @@ use std::io::{self, Write};
 use std::sync::{Arc, Wait};
 use ttrpc_transport::PipeConnection;
 
-/// Writes to a connection, and closes it where a write fails, so that the thread that reads it ends, too.
+/// Writes to a connection, and closes it if a write fails, so that the thread that reads the connection ends, too.
 #[derive(Drop)]
 pub struct Outlet {
     stream: Arc<PipeConnection, Global>,
 }
 
 impl Outlet {
-    /// The outlet to this connection.
+    /// Makes the outlet to this connection.
     pub fn new(stream: Arc<PipeConnection, Global>) -> Outlet {
         Outlet { stream }
     }
@@ -36,7 +36,7 @@ impl Write for Outlet {
     }
 }
 
-/// A gathering writer in front of an outlet, and the room for a loan of what is written.
+/// A gathering writer in front of an outlet, and the room for one loan.
 #[derive(Drop)]
 pub struct Outflow {
     gather: Gather<Outlet>,
@@ -45,7 +45,7 @@ pub struct Outflow {
 }
 
 impl Outflow {
-    /// The outflow to this outlet, which keeps so many bytes at most.
+    /// Makes the outflow to this outlet, which keeps at most `limit` bytes.
     pub fn new(alloc: Global, outlet: Outlet, limit: usize) -> Result<Outflow, AllocError> {
         Ok(Outflow {
             gather: Gather::with_limit(alloc, outlet, limit),
@@ -53,7 +53,7 @@ impl Outflow {
         })
     }
 
-    /// Writes what the port lends, as long as it has the turn.
+    /// Writes the bytes that the port lends, as long as the port has the turn.
     pub fn write_on<X: Wait, P: WritePort>(&mut self, rt: &X, port: &mut P) {
         write_pieces(rt, &mut self.gather, port, self.loan.as_mut_slice());
     }

@@ -4,18 +4,19 @@ ghost use Rattle.ttrpc_sync.specs.Queuing.{queuing_of, turn_after_queuing};
 
 use crate::ends::Turn;
 
-/// The next action of a thread that has queued a frame, once the lock is let go.
+/// The next action of a thread that has queued a frame, after it has released the lock.
 #[derive(Clone, Copy, Debug, PartialEq, Eq)]
 pub enum AfterQueuing {
-    /// It writes the frame that is queued: it has the turn.
+    /// The thread writes the frame that is queued: it has the turn.
     Write,
-    /// It wakes the writer thread.
+    /// The thread wakes the writer thread.
     Wake,
-    /// Nothing: the thread that has the turn, or was woken, looks again.
+    /// The thread does nothing: the thread that has the turn, or was woken, looks again.
     Leave,
 }
 
-/// Decides, under the lock, what the thread does next: it writes itself if it may and nobody else does.
+/// Decides, under the lock, what the thread does next. It writes its frame itself if it may and no other thread has the
+/// turn.
 pub fn after_queuing(turn: &mut Turn, may_write: bool) -> AfterQueuing
     ensures result { result ≡ queuing_of turn.old may_write }
     ensures turn { turn.new ≡ turn_after_queuing turn.old may_write }

@@ -1,12 +1,12 @@
-//! The workers of one connection that wait for a job: whether one more may, and how many are to be started. No call of
-//! it takes memory. It knows no threads, locks or jobs.
+//! The workers of one connection that wait for a job: whether one more may wait, and how many are to be started. None
+//! of the calls takes memory. The pool knows no threads, locks or jobs.
 
 ghost use Rattle.std.specs.Prelude.{◌≡◌, ◌↔◌, ◌+◌, ◌-◌, ◌<◌, ◌≤◌, IsTrue, IsFalse};
 ghost use Rattle.ttrpc_sync.specs.Pool.{Pool, with_waiting};
 
 use std::marker::Model;
 
-/// The count of workers that wait for a job. They are at most `max`.
+/// The count of workers that wait for a job, which is at most `max`.
 #[derive(Drop)]
 pub struct PoolCore {
     default: usize,
@@ -32,8 +32,8 @@ impl Model for PoolCore {
 }
 
 impl PoolCore {
-    /// A pool in which nobody waits. Where fewer than `min` wait, it is filled up to `default`, and more than `max` may
-    /// not wait.
+    /// Makes a pool in which no worker waits. If fewer than `min` workers wait, the pool is filled up to `default`. At
+    /// most `max` workers may wait.
     pub fn new(default: usize, min: usize, max: usize) -> PoolCore
         ensures default { result.default ≡ default }
         ensures min { result.min ≡ min }
@@ -48,7 +48,7 @@ impl PoolCore {
         }
     }
 
-    /// A worker wants to wait for a job. False: the limit is reached, and the worker isn't counted.
+    /// Asks to wait for a job. Returns false if the limit is reached; then the worker isn't counted.
     pub fn enter(&mut self) -> bool
         ensures room { IsTrue result ↔ (self.old.waiting < self.old.max) }
         ensures entered { IsTrue result → self.new ≡ with_waiting self.old (self.old.waiting + 1) }
@@ -62,7 +62,8 @@ impl PoolCore {
         true
     }
 
-    /// A worker waits no longer. True: fewer than `min` are left, so that more are to be started.
+    /// Reports that a worker waits no longer. Returns true if fewer than `min` wait now, so that more are to be
+    /// started.
     pub fn leave(&mut self) -> bool
         requires { 0 < self.old.waiting }
         ensures few { IsTrue result ↔ (self.new.waiting < self.old.min) }
@@ -73,9 +74,10 @@ impl PoolCore {
         self.is_short()
     }
 
-    /// How many workers are to be started: as many as are missing to `default` where fewer than `min` wait, else none.
+    /// Returns how many workers are to be started: the number missing to `default` if fewer than `min` wait, else none.
     pub fn to_start(&self) -> usize
-        ensures few { self.now.waiting < self.now.min → result ≡ self.now.default - self.now.waiting }
+        ensures few { self.now.waiting < self.now.min
+            → result ≡ self.now.default - self.now.waiting }
         ensures enough { self.now.min ≤ self.now.waiting → result ≡ 0 }
     {
         if self.is_short() {
@@ -85,14 +87,14 @@ impl PoolCore {
         }
     }
 
-    /// How many workers wait.
+    /// Returns how many workers wait.
     pub fn waiting(&self) -> usize
         ensures count { result ≡ self.now.waiting }
         ensures bound { result ≤ self.now.max }
     {
         self.waiting
     }
-    // Fewer than `min` wait.
+    // Returns whether fewer than `min` workers wait.
     fn is_short(&self) -> bool
         ensures { IsTrue result ↔ (self.now.waiting < self.now.min) }
     {

@@ -1,4 +1,4 @@
-//! What the threads of a client's connection share.
+//! The state that the threads of a client's connection share.
 ghost use Rattle.std.specs.Prelude.{◌≡◌, length, min, nat_eq, None, Some, IfOk, IfErr, IfSome, OnErr, false};
 ghost use Rattle.std.specs.Option.{option_map};
 ghost use Rattle.ttrpc_connection.specs.declared.failure.Failure.{Failure as AFailure};
@@ -23,29 +23,28 @@ use ttrpc_sync::{
     Connected, Held, Loan, Next, ReadEnd, Taken, Turn, WriteEnd, lock_soon, wait_soon,
 };
 
-/// How many places there are at which callers wait. A caller waits at that of its id.
+/// The number of places at which callers wait. The id of a call decides its caller's place.
 const PLACES: usize = 16;
 
 /// The places at which a call has ended, one bit each.
 pub type Ended = u32;
 
-/// Who is to be woken for a piece.
+/// The threads to wake for a piece.
 #[derive(Clone, Copy, Debug)]
 pub struct Woken {
-    /// The callers at these places: at them calls have ended.
+    /// The callers at these places, since calls have ended there.
     pub callers: Ended,
-    /// The reader thread.
+    /// True for the reader thread.
     pub reader: bool,
 }
 
-/// The port of one of a client's readers. It wakes the callers whose calls have ended.
+/// The port of one reader of a client. It wakes the callers of the calls that have ended.
 pub type ClientRead<'a, X, O, I> = ReadEnd<'a, X, ClientShared<O, I>>;
 
-/// The port of one of a client's writers.
+/// The port of one writer of a client.
 pub type ClientWrite<'a, X, O, I> = WriteEnd<'a, X, ClientShared<O, I>>;
 
-/// What stands under the lock of a client's connection. The ids of which its core keeps something are odd, and below the
-/// next one.
+/// The state under the lock of a client's connection. All ids that its core keeps are odd, and below the next id.
 #[derive(Drop)]
 pub struct ClientHeld<O, I> {
     pub core: ClientCore<O, I>,
@@ -55,7 +54,7 @@ pub struct ClientHeld<O, I> {
 }
 
 impl<O: OutboundTransform + Drop, I: InboundTransform + Drop> ClientHeld<O, I> {
-    /// This core, and it is nobody's turn to write or to read.
+    /// Makes the state of this core. No thread has the turn to write or to read.
     pub fn new(core: ClientCore<O, I>) -> Self
         ensures core { result.core ≡ core }
         ensures turn { result.turn ≡ record { is_taken = false; sleeps = false } }
@@ -71,8 +70,10 @@ impl<O: OutboundTransform + Drop, I: InboundTransform + Drop> ClientHeld<O, I> {
 
     /// Makes a call at the moment `now`, in nanoseconds.
     pub fn request(&mut self, alloc: Global, request: &Request, now: u64) -> Result<CallId>
-        ensures ok { IfOk result (λ id. Requests O.OutboundTransform self.old.core request.now now id self.new.core) }
-        ensures refused { IfErr result (RefusesRequest O.OutboundTransform self.old.core request.now) }
+        ensures ok { IfOk result
+            (λ id. Requests O.OutboundTransform self.old.core request.now now id self.new.core) }
+        ensures refused { IfErr result
+            (RefusesRequest O.OutboundTransform self.old.core request.now) }
         ensures err { OnErr result (self.new.core ≡ self.old.core) }
         ensures turns { (self.new.turn ≡ self.old.turn) × (self.new.reading ≡ self.old.reading) }
     {
@@ -81,7 +82,7 @@ impl<O: OutboundTransform + Drop, I: InboundTransform + Drop> ClientHeld<O, I> {
         asked
     }
 
-    /// Gives the outcome of a call, once; `None` where there is none yet.
+    /// Returns the outcome of a call, once. Returns `None` if there is no outcome yet.
     pub fn take_outcome(&mut self, alloc: Global, id: CallId) -> Option<Result<Response>>
         ensures given { TakesOutcome self.old.core id result self.new.core }
         ensures turns { (self.new.turn ≡ self.old.turn) × (self.new.reading ≡ self.old.reading) }
@@ -91,10 +92,12 @@ impl<O: OutboundTransform + Drop, I: InboundTransform + Drop> ClientHeld<O, I> {
         outcome
     }
 
-    /// Says that the moment `now`, in nanoseconds, has come: the calls whose deadline it is or was expire.
+    /// Reports that the moment `now`, in nanoseconds, has come. Calls with a deadline at or before this moment expire.
     pub fn tick(&mut self, now: u64)
-        ensures failed { (f : AFailure) → self.old.core.connection.failure ≡ Some f → self.new.core ≡ self.old.core }
-        ensures alive { self.old.core.connection.failure ≡ None → Ticks O.SEALS self.old.core now self.new.core }
+        ensures failed { (f : AFailure) → self.old.core.connection.failure ≡ Some f
+            → self.new.core ≡ self.old.core }
+        ensures alive { self.old.core.connection.failure ≡ None
+            → Ticks O.SEALS self.old.core now self.new.core }
         ensures turns { (self.new.turn ≡ self.old.turn) × (self.new.reading ≡ self.old.reading) }
     {
         self.core.tick(now);
@@ -110,17 +113,19 @@ impl<O: OutboundTransform + Drop, I: InboundTransform + Drop> ClientHeld<O, I> {
         self.core.lemma_is_client();
     }
 
-    /// Tells the turn to read of the calls that have ended, and says at which places their callers wait.
+    /// Reports the calls that have ended to the turn to read. Returns the places at which their callers wait.
     pub fn note_ended(&mut self) -> Ended
-        ensures told { TellsEnded self.old.core self.old.reading result self.new.core self.new.reading }
+        ensures told { TellsEnded self.old.core self.old.reading result
+            self.new.core self.new.reading }
         ensures turn { self.new.turn ≡ self.old.turn }
     {
         ended_places(&mut self.core, &mut self.reading)
     }
 
-    /// No client is left: the connection fails, if it hasn't. Takes no memory.
+    /// Fails the connection, if it hasn't failed, since no client is left. Takes no memory.
     pub fn abandon(&mut self)
-        ensures failed { self.new.core ≡ record self.old.core { connection = failing self.old.core.connection (AFailure.Told AnError.LocalClosed) } }
+        ensures failed { self.new.core
+            ≡ record self.old.core { connection = failing self.old.core.connection (AFailure.Told AnError.LocalClosed) } }
         ensures turns { (self.new.turn ≡ self.old.turn) × (self.new.reading ≡ self.old.reading) }
     {
         self.core.fail(Error::LocalClosed);
@@ -132,12 +137,13 @@ impl<O: OutboundTransform + Drop, I: InboundTransform + Drop> ClientHeld<O, I> {
     /// Feeds a piece to the core, as `take` of a reader's port does. Returns how many bytes the core took.
     pub fn take_on(core: &mut ClientCore<O, I>, alloc: Global, piece: &[u8]) -> Result<usize>
         ensures whole { IfOk result (λ n. n ≡ length piece.now) }
-        ensures fed { Takes (calling O.OutboundTransform I.InboundTransform) core.old.state core.old.connection piece.now 0 result core.new.state core.new.connection }
+        ensures fed { Takes (calling O.OutboundTransform I.InboundTransform) core.old.state
+            core.old.connection piece.now 0 result core.new.state core.new.connection }
     {
         core.feed(alloc, piece)
     }
 
-    /// Tells the core that its input has ended, as `ended` of a reader's port does.
+    /// Reports the end of the input to the core, as `ended` of a reader's port does.
     pub fn ended_on(core: &mut ClientCore<O, I>)
         ensures ends { Ends core.old.connection core.new.connection }
         ensures same { core.new ≡ record core.old { connection = core.new.connection } }
@@ -145,24 +151,27 @@ impl<O: OutboundTransform + Drop, I: InboundTransform + Drop> ClientHeld<O, I> {
         core.end_of_input();
     }
 
-    /// Fails the connection by an error of this kind, as `broke` of a port does.
+    /// Fails the connection with an error of this kind, as `broke` of a port does.
     pub fn broke_on(core: &mut ClientCore<O, I>, kind: ErrorKind)
-        ensures { core.new ≡ record core.old { connection = failing core.old.connection (AFailure.Told (AnError.Nix kind)) } }
+        ensures { core.new
+            ≡ record core.old { connection = failing core.old.connection (AFailure.Broke kind) } }
     {
-        core.fail(Error::Nix(kind));
+        core.broke(kind);
     }
 
     /// Lends bytes of the first unsent frame, as `lend` of a writer's port does. Returns how many.
     pub fn lend_on(core: &mut ClientCore<O, I>, buffer: &mut [u8]) -> usize
         ensures lends { Lends core.old.connection buffer.old result buffer.new }
-        ensures lent { core.new ≡ record core.old { connection = lending core.old.connection result } }
+        ensures lent { core.new
+            ≡ record core.old { connection = lending core.old.connection result } }
     {
         core.lend(buffer)
     }
 
     /// Reports `count` bytes of the last loan as written, at most all of them, as `wrote` of a writer's port does.
     pub fn wrote_on(core: &mut ClientCore<O, I>, count: usize)
-        ensures { core.new ≡ record core.old { connection = reporting core.old.connection (min count core.old.connection.outbox.queue.lent) } }
+        ensures { core.new
+            ≡ record core.old { connection = reporting core.old.connection (min count core.old.connection.outbox.queue.lent) } }
     {
         let lent = core.lent();
         core.wrote(count.min(lent));
@@ -174,7 +183,8 @@ impl<O: OutboundTransform + Drop, I: InboundTransform + Drop> Held for ClientHel
 
     fn take(&mut self, alloc: Global, piece: &[u8]) -> Option<Taken<Woken>>
         ensures whole { IfSome result (λ taken. taken.count ≡ length piece.now) }
-        ensures taken { TakesPiece O.OutboundTransform I.InboundTransform self.old.core self.old.reading piece.now result self.new.core self.new.reading }
+        ensures taken { TakesPiece O.OutboundTransform I.InboundTransform self.old.core
+            self.old.reading piece.now result self.new.core self.new.reading }
         ensures turn { self.new.turn ≡ self.old.turn }
     {
         let (count, callers) = feed_piece(&mut self.core, &mut self.reading, alloc, piece)?;
@@ -191,7 +201,8 @@ impl<O: OutboundTransform + Drop, I: InboundTransform + Drop> Held for ClientHel
 
     fn ended(&mut self)
         ensures ends { Ends self.old.core.connection self.new.core.connection }
-        ensures same { self.new.core ≡ record self.old.core { connection = self.new.core.connection } }
+        ensures same { self.new.core
+            ≡ record self.old.core { connection = self.new.core.connection } }
         ensures turns { (self.new.turn ≡ self.old.turn) × (self.new.reading ≡ self.old.reading) }
     {
         ClientHeld::ended_on(&mut self.core);
@@ -199,7 +210,8 @@ impl<O: OutboundTransform + Drop, I: InboundTransform + Drop> Held for ClientHel
 
     fn wrote(&mut self, count: usize)
         ensures reported { self.new.core ≡ record self.old.core {
-          connection = reporting self.old.core.connection (min count self.old.core.connection.outbox.queue.lent);
+          connection = reporting self.old.core.connection
+              (min count self.old.core.connection.outbox.queue.lent);
         } }
         ensures turns { (self.new.turn ≡ self.old.turn) × (self.new.reading ≡ self.old.reading) }
     {
@@ -208,8 +220,10 @@ impl<O: OutboundTransform + Drop, I: InboundTransform + Drop> Held for ClientHel
 
     fn lend(&mut self, buffer: &mut [u8]) -> Loan
         ensures lends { Lends self.old.core.connection buffer.old result.count buffer.new }
-        ensures lent { self.new.core ≡ record self.old.core { connection = lending self.old.core.connection result.count } }
-        ensures frame { result.ends_frame ≡ nat_eq result.count (lendable self.old.core.connection) }
+        ensures lent { self.new.core
+            ≡ record self.old.core { connection = lending self.old.core.connection result.count } }
+        ensures frame { result.ends_frame
+            ≡ nat_eq result.count (lendable self.old.core.connection) }
         ensures turns { (self.new.turn ≡ self.old.turn) × (self.new.reading ≡ self.old.reading) }
     {
         let open = self.core.lendable();
@@ -221,15 +235,18 @@ impl<O: OutboundTransform + Drop, I: InboundTransform + Drop> Held for ClientHel
     }
 
     fn broke(&mut self, kind: ErrorKind)
-        ensures failed { self.new.core ≡ record self.old.core { connection = failing self.old.core.connection (AFailure.Told (AnError.Nix kind)) } }
+        ensures failed { self.new.core
+            ≡ record self.old.core { connection = failing self.old.core.connection (AFailure.Broke kind) } }
         ensures turns { (self.new.turn ≡ self.old.turn) × (self.new.reading ≡ self.old.reading) }
     {
         ClientHeld::broke_on(&mut self.core, kind);
     }
 
     fn next(&mut self, has_turn: bool) -> Next
-        ensures result { result ≡ next_of self.old.turn.is_taken has_turn (is_alive self.old.core) (has_bytes self.old.core) }
-        ensures turn { self.new.turn ≡ turn_after self.old.turn has_turn (is_alive self.old.core) (has_bytes self.old.core) }
+        ensures result { result ≡ next_of self.old.turn.is_taken has_turn (is_alive self.old.core)
+            (has_bytes self.old.core) }
+        ensures turn { self.new.turn
+            ≡ turn_after self.old.turn has_turn (is_alive self.old.core) (has_bytes self.old.core) }
         ensures rest { (self.new.core ≡ self.old.core) × (self.new.reading ≡ self.old.reading) }
     {
         let bytes_wait = self.core.lendable() > 0;
@@ -255,7 +272,7 @@ impl<O: OutboundTransform + Drop, I: InboundTransform + Drop> Held for ClientHel
     }
 }
 
-/// Takes a piece, and says at which places calls have ended. None: the connection has failed.
+/// Takes a piece, and returns how many bytes it took and at which places calls have ended. Returns `None` if the connection has failed.
 fn feed_piece<O: OutboundTransform + Drop, I: InboundTransform + Drop>(
     core: &mut ClientCore<O, I>,
     reading: &mut ReadTurn,
@@ -264,7 +281,8 @@ fn feed_piece<O: OutboundTransform + Drop, I: InboundTransform + Drop>(
 ) -> Option<(usize, Ended)>
     ensures pending { IsClient core.new.state.next core.new.state.calls }
     ensures whole { IfSome result (λ taken. taken.0 ≡ length piece.now) }
-    ensures fed { IsFed O.OutboundTransform I.InboundTransform core.old reading.old piece.now (option_map (λ taken. taken.1) result) core.new reading.new }
+    ensures fed { IsFed O.OutboundTransform I.InboundTransform core.old reading.old piece.now
+        (option_map (λ taken. taken.1) result) core.new reading.new }
 {
     let taken = ClientHeld::take_on(core, alloc, piece);
     let ended = ended_places(core, reading);
@@ -274,7 +292,7 @@ fn feed_piece<O: OutboundTransform + Drop, I: InboundTransform + Drop>(
     }
 }
 
-/// At which places calls have ended that weren't told of yet.
+/// Returns the places at which calls have ended that weren't reported yet.
 fn ended_places<O: OutboundTransform + Drop, I: InboundTransform + Drop>(
     core: &mut ClientCore<O, I>,
     reading: &mut ReadTurn,
@@ -291,14 +309,14 @@ fn ended_places<O: OutboundTransform + Drop, I: InboundTransform + Drop>(
     places
 }
 
-/// The place of a caller.
+/// Returns the place of a caller.
 fn place_of(id: CallId) -> usize
     ensures { result ≡ place_of id }
 {
     ((id / 2) % 16) as usize
 }
 
-/// What the threads of a client's connection share. No thread reads or writes a socket while it has the lock.
+/// The state that the threads of a client's connection share. No thread reads or writes a socket while it holds the lock.
 #[derive(Drop)]
 pub struct ClientShared<O, I> {
     held: Mutex<ClientHeld<O, I>>,
@@ -309,7 +327,7 @@ pub struct ClientShared<O, I> {
 }
 
 impl<O: OutboundTransform + Drop, I: InboundTransform + Drop> ClientShared<O, I> {
-    /// This core, shared.
+    /// Makes the shared state of this core.
     pub fn new(core: ClientCore<O, I>) -> Self {
         ClientShared {
             held: Mutex::new(ClientHeld::new(core)),
@@ -337,13 +355,13 @@ impl<O: OutboundTransform + Drop, I: InboundTransform + Drop> ClientShared<O, I>
         }
     }
 
-    /// Where a caller waits for the outcome of its call.
+    /// Returns the condition on which a caller waits for the outcome of its call.
     pub fn caller(&self, id: CallId) -> &Condvar {
         let callers = &self.callers[..];
         &callers[place_of(id)]
     }
 
-    /// Waits until the reader thread has the turn. False: the connection has failed.
+    /// Waits until the reader thread has the turn. Returns false if the connection has failed.
     pub fn wait_to_read<X: Wait>(&self, rt: &X) -> bool {
         let mut guard = lock_soon(rt, &self.held);
         for _ in rt.forever() {
@@ -363,8 +381,8 @@ impl<O: OutboundTransform + Drop, I: InboundTransform + Drop> ClientShared<O, I>
         self.to_read.notify_one();
     }
 
-    /// Fails the connection, since nobody is left who would call, and wakes its threads. They have the lock for a moment
-    /// at most, and no caller has it, so this waits for it without a handle for waiting.
+    /// Fails the connection, since no client is left to call, and wakes its threads. The threads hold the lock only for a moment, and no
+    /// caller holds it. So this call waits for the lock without a handle for waiting.
     pub fn abandon(&self) {
         for _ in 0..u64::MAX {
             if let Some(mut guard) = self.held.try_lock() {

@@ -1,4 +1,4 @@
-//! The ports of a client's connection: what its threads share, and whose turn it is to read.
+//! The ports of a client's connection: the state that its threads share, and the turn to read.
 
 mod client;
 mod read_turn;

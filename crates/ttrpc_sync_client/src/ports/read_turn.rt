@@ -1,21 +1,21 @@
-//! Whose turn it is to read.
+//! The turn to read.
 ghost use Rattle.std.specs.Prelude.{◌≡◌, true, false, if◌then◌else◌};
 ghost use Rattle.ttrpc_sync_client.specs.ReadTurns.{begun, ended, finished, hands_over, is_alone, is_free, may_rest, may_take, may_write, new_turn, onward_of, reads_on, turn_onward, turn_waking, wakes_thread};
 
 use ttrpc_client::CallId;
 
-/// The longest frame that a caller writes before it reads for itself. Each socket's buffer has room for it, so the write
-/// doesn't wait for a peer that writes before it reads.
+/// The longest frame that a caller writes before it reads for itself. Each socket's buffer has room for such a frame, so the write doesn't
+/// wait for a peer that writes before it reads.
 pub const LONE_FRAME: usize = 4096;
 
-/// How many calls in a row are alone before the reader thread rests. Then callers read for themselves,
-/// which saves a switch of threads a call.
+/// The number of lone calls in a row after which the reader thread rests. Then callers read for themselves, which saves a switch of threads
+/// for each call.
 pub const CALLS_TO_REST: u32 = 8;
 
-/// Who reads a client's connection.
+/// The reader of a client's connection.
 #[derive(Clone, Copy, Debug, PartialEq, Eq)]
 pub enum Reader {
-    /// Nobody.
+    /// No thread.
     Nobody,
     /// The reader thread.
     Thread,
@@ -26,23 +26,23 @@ pub enum Reader {
 /// The next action of a reader after a piece.
 #[derive(Clone, Copy, Debug, PartialEq, Eq)]
 pub enum Onward {
-    /// It reads on.
+    /// The reader reads on.
     Reads,
-    /// It reads no more.
+    /// The reader stops reading.
     Leaves,
-    /// It reads no more, and the reader thread is to be woken, since other callers wait.
+    /// The reader stops reading, and the reader thread is to be woken, since other callers wait.
     HandsOver,
 }
 
 impl Onward {
-    /// Whether the reader reads on.
+    /// Returns whether the reader reads on.
     pub fn reads_on(self) -> bool
         ensures { result ≡ reads_on self }
     {
         matches!(self, Onward::Reads)
     }
 
-    /// Whether the reader thread is to be woken.
+    /// Returns whether the reader thread is to be woken.
     pub fn hands_over(self) -> bool
         ensures { result ≡ hands_over self }
     {
@@ -50,39 +50,38 @@ impl Onward {
     }
 }
 
-/// Which of the threads of a client's connection reads it: one at a time. It stands under the connection's lock, so who
-/// has the turn is the one reader.
+/// The turn to read, which at most one thread of a client's connection has. It lies under the connection's lock, so the thread that has the
+/// turn is the only reader.
 #[derive(Debug, Drop)]
 pub struct ReadTurn {
-    /// Who has it.
+    /// The thread that has the turn.
     pub reader: Reader,
-    /// Whether the reader thread sleeps, and wasn't woken yet.
+    /// True if the reader thread sleeps, and hasn't been woken yet.
     pub sleeps: bool,
-    /// How many calls are under way, up to their callers' getting their outcomes.
+    /// The number of calls under way. A call counts until its caller has the outcome.
     pub callers: u64,
-    /// How many of the last calls were alone, in a row, counted up to `CALLS_TO_REST`.
+    /// The number of the last calls that were alone, in a row, counted up to `CALLS_TO_REST`.
     pub alone: u32,
     /// The call that began last, until it has ended.
     pub last: Option<CallId>,
-    /// The call that began last, until it was answered. While there is one, the peer may not have read all that was
-    /// written.
+    /// The call that began last, until it was answered. While there is one, the peer may not have read all bytes that were written.
     pub unread: Option<CallId>,
 }
 
-/// How a call is made.
+/// The manner in which a call is made.
 #[derive(Clone, Copy, Debug, PartialEq, Eq)]
 pub struct Manner {
-    /// Whether it may expire.
+    /// True if the call may expire.
     pub has_deadline: bool,
-    /// Whether nothing waits to be written before its frame.
+    /// True if nothing waits to be written before the call's frame.
     pub is_next: bool,
-    /// Whether its frame is at most `LONE_FRAME` bytes long.
+    /// True if the call's frame is at most `LONE_FRAME` bytes long.
     pub is_short: bool,
 }
 
 impl Manner {
-    /// Whether the caller may write for itself: it has no deadline, and nothing waits before its frame. Where it isn't alone
-    /// another thread reads meanwhile, so a peer that writes before it reads holds nobody.
+    /// Returns whether the caller may write for itself: it has no deadline, and nothing waits before its frame. If the caller isn't alone,
+    /// another thread reads meanwhile, so a peer that writes before it reads blocks no thread.
     pub fn may_write(self) -> bool
         ensures { result ≡ may_write self }
     {
@@ -91,7 +90,7 @@ impl Manner {
 }
 
 impl ReadTurn {
-    /// Nobody's, and no call is under way.
+    /// Makes a turn that no thread has, without a call under way.
     pub fn new() -> ReadTurn
         ensures { result ≡ new_turn }
     {
@@ -105,8 +104,8 @@ impl ReadTurn {
         }
     }
 
-    /// A call has begun. True: its caller is alone, and may write and read for itself. Neither can hold it: the peer has
-    /// read all that was written before, so the socket has room for its short frame, and it has no deadline.
+    /// Begins a call. Returns whether its caller is alone, and so may write and read for itself. Neither can block the caller. The peer has
+    /// read all bytes written before, so the socket has room for the call's short frame, and the call has no deadline.
     pub fn begins(&mut self, id: CallId, manner: Manner) -> bool
         ensures result { result ≡ is_alone self.old manner }
         ensures turn { self.new ≡ begun self.old id (is_alone self.old manner) }
@@ -124,7 +123,7 @@ impl ReadTurn {
         is_alone
     }
 
-    /// A call has ended.
+    /// Reports that a call has ended.
     pub fn ended(&mut self, id: CallId)
         ensures { self.new ≡ ended self.old id }
     {
@@ -136,7 +135,7 @@ impl ReadTurn {
         }
     }
 
-    /// The caller of this call has its outcome, and whether that is the peer's answer.
+    /// Reports that the caller of this call has its outcome. `is_answered` says that the outcome is the peer's answer.
     pub fn finished(&mut self, id: CallId, is_answered: bool)
         ensures { self.new ≡ finished self.old id is_answered }
     {
@@ -146,11 +145,12 @@ impl ReadTurn {
         }
     }
 
-    /// The caller of this call, which was alone, wants to read. False: another has the turn, its call has ended, or another
-    /// call has begun since.
+    /// Asks for the turn, for the caller of this call, which was alone. Returns false if another thread has the turn, the call has ended,
+    /// or another call has begun since.
     pub fn take(&mut self, id: CallId) -> bool
         ensures result { result ≡ may_take self.old id }
-        ensures turn { self.new ≡ (if may_take self.old id then record self.old { reader = Reader.Caller id } else self.old) }
+        ensures turn { self.new ≡ (if may_take self.old id
+            then record self.old { reader = Reader.Caller id } else self.old) }
     {
         if self.reader != Reader::Nobody || self.last != Some(id) {
             return false;
@@ -159,11 +159,13 @@ impl ReadTurn {
         true
     }
 
-    /// The reader thread wants to. False: it is to sleep, since a caller has the turn, or it may rest.
+    /// Asks for the turn, for the reader thread. Returns false if the thread is to sleep, since a caller has the turn, or since the thread
+    /// may rest.
     pub fn thread_takes(&mut self) -> bool
         ensures result { result ≡ (if may_rest self.old then false else is_free self.old.reader) }
-        ensures turn { self.new ≡ (if may_rest self.old then record self.old { sleeps = true } else
-            (if is_free self.old.reader then record self.old { reader = Reader.Thread } else record self.old { sleeps = true })) }
+        ensures turn { self.new ≡ (if may_rest self.old then record self.old { sleeps = true }
+            else (if is_free self.old.reader then record self.old { reader = Reader.Thread }
+            else record self.old { sleeps = true })) }
     {
         if self.may_rest() || self.reader != Reader::Nobody {
             self.sleeps = true;
@@ -173,7 +175,7 @@ impl ReadTurn {
         true
     }
 
-    /// What the reader does behind a piece with which calls may have ended.
+    /// Returns the next action of the reader after a piece, which may have ended calls.
     pub fn onward(&mut self) -> Onward
         ensures result { result ≡ onward_of self.old.reader self.old }
         ensures turn { self.new ≡ turn_onward (onward_of self.old.reader self.old) self.old }
@@ -192,8 +194,8 @@ impl ReadTurn {
         }
     }
 
-    /// A caller waits that doesn't read. True: the reader thread is to be woken, which is said once for
-    /// one sleep. Where another caller reads, that one hands over.
+    /// Reports that a caller waits that doesn't read. Returns true if the reader thread is to be woken, at most once for each sleep. If
+    /// another caller reads, that caller hands over the turn.
     pub fn wakes(&mut self) -> bool
         ensures result { result ≡ wakes_thread self.old }
         ensures turn { self.new ≡ turn_waking self.old }
@@ -205,7 +207,7 @@ impl ReadTurn {
         true
     }
 
-    // The reader thread may rest.
+    // Returns whether the reader thread may rest.
     fn may_rest(&self) -> bool
         ensures { result ≡ may_rest self.now }
     {

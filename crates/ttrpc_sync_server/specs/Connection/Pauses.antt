@@ -9,10 +9,10 @@ abbrev pub lasts : Pause → (pieces : Option ℕ) → Bool
 lasts pause None = false
 lasts pause (Some count) = is_number pause.pieces count
 
--- for how long it has been seen there
+-- the time since the first look that saw this number of pieces
 abbrev pub paused : Pause → (now : ℕ) → (pieces : Option ℕ) → ℕ
 paused pause now pieces = if lasts pause pieces then now - pause.since else 0
 
--- what is kept of a look
+-- the state after a look
 abbrev pub seen_behind : Pause → (now : ℕ) → (pieces : Option ℕ) → Pause
 seen_behind pause now pieces = if lasts pause pieces then pause else record { pieces = pieces; since = now }

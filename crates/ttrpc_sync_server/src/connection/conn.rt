@@ -14,7 +14,7 @@ use ttrpc_proto::{Error, Response, Result};
 use ttrpc_secure::{ConnectionData, InboundTransform, OutboundTransform};
 use ttrpc_sync::{AfterQueuing, Connected, Host, Link, after_queuing, lock_soon, wait_for_room};
 
-/// A server's connection: its core under a lock, what is known of it, and the threads that serve it.
+/// A server's connection: its core under a lock, its data, and the threads that serve it.
 pub struct Conn<R: Host, O: OutboundTransform + Drop, I: InboundTransform + Drop> {
     rt: R,
     link: Link<ServerShared<O, I>>,
@@ -23,7 +23,7 @@ pub struct Conn<R: Host, O: OutboundTransform + Drop, I: InboundTransform + Drop
     crew: Arc<Crew, Global>,
 }
 
-/// Written out so that a crate above proves nothing of the parts that are dropped here.
+/// Written out so that a crate above proves nothing about the parts that are dropped here.
 impl<R: Host, O: OutboundTransform + Drop, I: InboundTransform + Drop> Drop for Conn<R, O, I> {
     fn drop(self) {
         let Conn {
@@ -37,7 +37,7 @@ impl<R: Host, O: OutboundTransform + Drop, I: InboundTransform + Drop> Drop for 
 }
 
 impl<R: Host, O: OutboundTransform + Drop, I: InboundTransform + Drop> Conn<R, O, I> {
-    /// A connection over `link`, with what is known of it, and the crew that is to serve it.
+    /// Makes a connection over `link`, with its data, and the crew that is to serve it.
     pub fn new(
         rt: R,
         link: Link<ServerShared<O, I>>,
@@ -57,14 +57,14 @@ impl<R: Host, O: OutboundTransform + Drop, I: InboundTransform + Drop> Conn<R, O
         })
     }
 
-    /// What is known of the connection, as its hook told it.
+    /// Returns the data of the connection, as its hook reported it.
     pub fn connection_data(&self) -> &ConnectionData
         ensures { result.now ≡ self.now.known }
     {
         &self.known
     }
 
-    /// The allocator of handlers.
+    /// Returns the allocator of handlers.
     pub fn alloc(&self) -> Global {
         self.rt.alloc()
     }
@@ -85,12 +85,12 @@ impl<R: Host, O: OutboundTransform + Drop, I: InboundTransform + Drop> Conn<R, O
         &self.crew
     }
 
-    /// Nothing comes from the client any more: its handlers may give up.
+    /// Sets the flag by which handlers may give up: nothing comes from the client any more.
     pub(crate) fn cancel(&self) {
         self.cancelled.store(true, Ordering::SeqCst);
     }
 
-    /// The connection has failed, or is to end: each of its threads ends.
+    /// Ends the connection, after it has failed or when it is to end. Each of its threads ends.
     pub(crate) fn end(&self) {
         self.cancel();
         self.link.shared().end(&self.rt);
@@ -118,7 +118,7 @@ impl<R: Host, O: OutboundTransform + Drop, I: InboundTransform + Drop> Conn<R, O
         }
     }
 
-    /// Queues a response under a stream's id, as soon as there is room, and sees to it that it is written.
+    /// Queues a response under a stream's id as soon as there is room, and makes sure that it is written.
     pub(crate) fn respond(&self, stream_id: u32, response: &Response) -> Result<()> {
         let shared = self.link.shared();
         let mut guard = lock_soon(&self.rt, shared.held());
@@ -137,8 +137,8 @@ impl<R: Host, O: OutboundTransform + Drop, I: InboundTransform + Drop> Conn<R, O
     }
 }
 
-/// Queues a response, and says what is to be done next. Who handles a job writes it itself where no other job is under way,
-/// nothing else waits to be written, and more requests may come: while a connection ends, no handler waits for its own answer to be
+/// Queues a response, and returns the next action of its thread. The thread writes the response itself if nothing else waits to be written,
+/// no other job is under way or waits, and more requests may come. While a connection ends, no handler waits for its own answer to be
 /// written.
 fn responded<O: OutboundTransform + Drop, I: InboundTransform + Drop>(
     held: &mut ServerHeld<O, I>,
@@ -146,14 +146,20 @@ fn responded<O: OutboundTransform + Drop, I: InboundTransform + Drop>(
     stream_id: u32,
     response: &Response,
 ) -> Result<AfterQueuing>
-    // The response is queued, and written at once where it may be.
-    ensures queued { OnOk result (QueuesResponse O.OutboundTransform held.old.core stream_id response.now held.new.core) }
-    ensures next { IfOk result (λ next. next ≡ queuing_of held.old.turn (is_lone_answer held.old.has_ended held.old.core held.new.core)) }
-    ensures turn { OnOk result (held.new.turn ≡ turn_after_queuing held.old.turn (is_lone_answer held.old.has_ended held.old.core held.new.core)) }
-    ensures writes { IfOk result (λ next. held.new.handler_writes ≡ writes_behind next held.old.handler_writes) }
-    ensures rest { held.new ≡ record held.old { core = held.new.core; turn = held.new.turn; handler_writes = held.new.handler_writes } }
-    // Or it is refused, and nothing changed.
-    ensures refused { IfErr result (RefusesResponse O.OutboundTransform held.old.core stream_id response.now) }
+    // The response is queued, and written at once if its thread may.
+    ensures queued { OnOk result
+        (QueuesResponse O.OutboundTransform held.old.core stream_id response.now held.new.core) }
+    ensures next { IfOk result (λ next. next ≡ queuing_of held.old.turn
+        (is_lone_answer held.old.has_ended held.old.core held.new.core)) }
+    ensures turn { OnOk result (held.new.turn ≡ turn_after_queuing held.old.turn
+        (is_lone_answer held.old.has_ended held.old.core held.new.core)) }
+    ensures writes { IfOk result
+        (λ next. held.new.handler_writes ≡ writes_behind next held.old.handler_writes) }
+    ensures rest { held.new
+        ≡ record held.old { core = held.new.core; turn = held.new.turn; handler_writes = held.new.handler_writes } }
+    // Or the response is refused, and nothing changed.
+    ensures refused { IfErr result
+        (RefusesResponse O.OutboundTransform held.old.core stream_id response.now) }
     ensures err { OnErr result (held.new ≡ held.old) }
 {
     let is_first = !held.has_ended && held.core.lendable() == 0;

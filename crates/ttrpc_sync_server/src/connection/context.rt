@@ -1,4 +1,4 @@
-//! The context that a handler gets with the request, and how it answers.
+//! The context that a handler gets with the request, and the calls by which it answers.
 ghost use Rattle.std.specs.Prelude.{◌≡◌, ◌⊎◌, ℕ, List, [], IfErr, IfOk, IsSomeAnd};
 ghost use Rattle.std.specs.Arc.{arc_value};
 ghost use Rattle.ttrpc_proto.specs.ErrorText.{StandsFor, Tells};
@@ -18,33 +18,35 @@ use ttrpc_sync::Host;
 /// The context that a handler gets with the request.
 #[derive(Drop)]
 pub struct TtrpcContext<R: Host, O: OutboundTransform + Drop, I: InboundTransform + Drop> {
-    /// The connection that the request came by.
+    /// The connection by which the request came.
     pub conn: Arc<Conn<R, O, I>, Global>,
-    /// Set once the client sends nothing more, or the connection has failed: perhaps nobody waits for the response any more.
+    /// The flag that is set once the client sends nothing more, or the connection has failed. Then perhaps nobody waits for the response
+    /// any more.
     pub cancelled: Arc<AtomicBool, Global>,
     /// The header of the request's frame.
     pub mh: MessageHeader,
-    /// What goes with the request: texts under keys.
+    /// The metadata of the request: texts under keys.
     pub metadata: BTreeMap<String, Vec<String>>,
-    /// How long the client waits for the response, in nanoseconds; 0 for no limit.
+    /// The time that the client waits for the response, in nanoseconds; 0 for no limit.
     pub timeout_nano: i64,
 }
 
 impl<R: Host, O: OutboundTransform + Drop, I: InboundTransform + Drop> TtrpcContext<R, O, I> {
-    /// The context of a request that came by this connection, with this header.
+    /// Makes the context of a request that came by this connection, with this header.
     pub(crate) fn new(
         conn: &Arc<Conn<R, O, I>, Global>,
         mh: MessageHeader,
         request: &Request,
     ) -> Result<TtrpcContext<R, O, I>>
-        // It has the connection, the header and what the request says.
+        // The context has the connection, the header and the request's data.
         ensures conn { IfOk result (λ context. arc_value context.conn ≡ arc_value conn.now) }
-        // That its flag is the connection's own no clause can say, since all flags are alike to it.
+        // No clause can say that the flag is the connection's own, since contracts see all flags as equal.
         ensures header { IfOk result (λ context. context.mh ≡ mh) }
         ensures metadata { IfOk result (λ context. (key : List ℕ)
-            → texts_of (seen context.metadata.entries) key ≡ some_texts (values_at request.now.metadata key)) }
+            → texts_of (seen context.metadata.entries) key
+            ≡ some_texts (values_at request.now.metadata key)) }
         ensures timeout { IfOk result (λ context. context.timeout_nano ≡ request.now.timeout_nano) }
-        // An error is want of memory.
+        // An error means that memory was refused.
         ensures only_memory { IfErr result (λ e. e ≡ Error.NoMemory) }
     {
         Ok(TtrpcContext {
@@ -56,12 +58,12 @@ impl<R: Host, O: OutboundTransform + Drop, I: InboundTransform + Drop> TtrpcCont
         })
     }
 
-    /// The allocator of handlers.
+    /// Returns the allocator of handlers.
     pub fn alloc(&self) -> Global {
         self.conn.alloc()
     }
 
-    /// What handlers ask the system by: its locks, its clock and its threads.
+    /// Returns the system as handlers use it: its locks, its clock and its threads.
     pub fn rt(&self) -> &R {
         self.conn.rt()
     }
@@ -72,7 +74,7 @@ impl<R: Host, O: OutboundTransform + Drop, I: InboundTransform + Drop> TtrpcCont
     }
 }
 
-/// What the request says; its connection isn't shown.
+/// Shows the request's data, but not its connection.
 impl<R: Host, O: OutboundTransform + Drop, I: InboundTransform + Drop> fmt::Debug
     for TtrpcContext<R, O, I> {
     fn fmt<W: fmt::Write>(&self, f: &mut fmt::Formatter<W>) -> fmt::Result {
@@ -84,14 +86,14 @@ impl<R: Host, O: OutboundTransform + Drop, I: InboundTransform + Drop> fmt::Debu
     }
 }
 
-/// Handles the requests of a method.
+/// A handler for the requests of a method.
 pub trait MethodHandler<R: Host, O: OutboundTransform + Drop, I: InboundTransform + Drop> {
     /// Handles a request, and answers it by `respond`. An error ends the connection.
     fn handler(&self, ctx: TtrpcContext<R, O, I>, req: Request) -> Result<()>;
 }
 
-/// Queues a response under a stream's id. One that is too long for the connection is replaced by a status that says so. It
-/// is refused once the connection has failed, where its half doesn't seal it, or for want of memory.
+/// Queues a response under a stream's id. A response that is too long for the connection is replaced by a status that says so. Refused if
+/// the connection has failed, if its half doesn't seal the response, or for want of memory.
 pub fn send_response<R: Host, O: OutboundTransform + Drop, I: InboundTransform + Drop>(
     stream_id: u32,
     res: Response,
@@ -100,8 +102,8 @@ pub fn send_response<R: Host, O: OutboundTransform + Drop, I: InboundTransform +
     conn.respond(stream_id, &res)
 }
 
-/// Queues the response that an error makes: the status that it carries, or `UNKNOWN` with its text. Where memory for that was
-/// refused the client is told of this instead.
+/// Queues the response for an error: the status that the error carries, or `UNKNOWN` with its text. If memory for that is refused, the
+/// response reports this instead.
 pub fn response_error_to_channel<R: Host, O: OutboundTransform + Drop, I: InboundTransform + Drop>(
     stream_id: u32,
     e: Error,
@@ -110,9 +112,10 @@ pub fn response_error_to_channel<R: Host, O: OutboundTransform + Drop, I: Inboun
     send_response(stream_id, response_of(conn.alloc(), e), conn)
 }
 
-/// The response that an error makes, or that which tells that memory for it was refused.
+/// Converts an error to a response; falls back to `NoMemory`.
 fn response_of(alloc: Global, e: Error) -> Response
-    ensures status { IsSomeAnd result.status (Tells e) ⊎ IsSomeAnd result.status (StandsFor Error.NoMemory) }
+    ensures status { IsSomeAnd result.status (Tells e)
+        ⊎ IsSomeAnd result.status (StandsFor Error.NoMemory) }
     ensures payload { result.payload ≡ [] }
 {
     match e.try_into_response(alloc) {

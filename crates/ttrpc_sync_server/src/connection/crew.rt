@@ -1,4 +1,4 @@
-//! The threads that serve one connection: how many there are, when more workers are started, and how all of them end.
+//! The threads that serve one connection: how many there are, when more workers are started, and how all threads end.
 use std::sync::{Condvar, Mutex, Wait};
 use std::time::{Clock, Duration};
 
@@ -11,39 +11,39 @@ pub struct Crew {
 
 #[derive(Drop)]
 struct Count {
-    // Those that have begun, or are about to, and haven't ended.
+    // The threads that have begun, or are about to, and haven't ended.
     threads: u64,
-    // How often a worker left too few behind that wait, and nobody looked yet.
+    // How often it was reported that too few workers wait, without an order to fill since.
     shortages: u64,
     drain: Drain,
-    // Whether each request is answered and no more come.
+    // True if each request is answered and no more come.
     is_answered: bool,
     is_over: bool,
 }
 
-/// Whether a connection takes requests.
+/// The state of a connection as to new requests.
 #[derive(Clone, Copy, Debug)]
 enum Drain {
-    /// It takes requests.
+    /// The connection takes requests.
     No,
-    /// It is to take no more, and its keeper doesn't know yet.
+    /// The connection is to take no more requests, and its keeper doesn't know yet.
     Asked,
-    /// It takes no more, and its keeper knows.
+    /// The connection takes no more requests, and its keeper knows.
     Told,
 }
 
-/// What is to be done for a connection.
+/// An order for the keeper of a connection.
 #[derive(Clone, Copy, Debug, PartialEq, Eq)]
 pub enum Order {
-    /// Workers are to be started, as many as are missing.
+    /// Start the missing workers.
     Fill,
-    /// The connection takes no more requests.
+    /// Take no more requests.
     Drain,
-    /// Each request is answered, and the answers leave.
+    /// Let the answers leave: each request is answered.
     Flush,
-    /// The keeper looks at its connection again.
+    /// Look at the connection again.
     Look,
-    /// The connection ends.
+    /// End the connection.
     End,
 }
 
@@ -70,7 +70,7 @@ impl Count {
 }
 
 impl Crew {
-    /// No threads.
+    /// Makes a crew without threads.
     pub fn new() -> Crew {
         Crew {
             held: Mutex::new(Count {
@@ -84,13 +84,13 @@ impl Crew {
         }
     }
 
-    /// A thread is about to begin.
+    /// Counts a thread that is about to begin.
     pub fn joins<X: Wait>(&self, rt: &X) {
         let mut count = self.held.lock(rt);
         count.threads = count.threads.saturating_add(1);
     }
 
-    /// A thread has done its work, or couldn't be started.
+    /// Counts out a thread that has done its work, or couldn't be started.
     pub fn leaves<X: Wait>(&self, rt: &X) {
         let mut count = self.held.lock(rt);
         count.threads = count.threads.saturating_sub(1);
@@ -107,7 +107,7 @@ impl Crew {
     }
 
     /// Asks the keeper of the connection to take no more requests, and to end the connection after the requests that came are
-    /// answered. Returns whether the connection has threads; if it has none, nobody was asked.
+    /// answered. Returns whether the connection has threads; if it has none, nothing was asked.
     pub fn drain<X: Wait>(&self, rt: &X) -> bool {
         let mut count = self.held.lock(rt);
         if count.threads == 0 {
@@ -127,13 +127,13 @@ impl Crew {
         self.changed.notify_all();
     }
 
-    /// The connection ends.
+    /// Reports that the connection ends.
     pub fn end<X: Wait>(&self, rt: &X) {
         self.held.lock(rt).is_over = true;
         self.changed.notify_all();
     }
 
-    /// Waits until something is to be done. If `rest` is given, waits at most so long, and then returns `Look`.
+    /// Waits until there is an order, and returns it. If `rest` is given, waits at most that long, and then returns `Look`.
     pub fn next_order<X: Wait + Clock>(&self, rt: &X, rest: Option<Duration>) -> Order {
         let mut count = self.held.lock(rt);
         for _ in rt.forever() {

@@ -19,16 +19,17 @@ use ttrpc_secure::{InboundTransform, OutboundTransform, SendInbound, SendOutboun
 use ttrpc_sync::{Connected, Host, Runtime, lock_soon, moment};
 use ttrpc_transport::Watch;
 
-/// How many threads read a connection in turn.
+/// The number of threads that read a connection in turn.
 const READERS: u32 = 2;
 
-/// The shortest frame limit for which the keeper looks more often, in milliseconds.
+/// The frame limit below which the keeper looks no more often, in milliseconds.
 const SHORTEST_LIMIT: u64 = 4;
 
-/// Serves the connection until it ends: starts its readers, its writer and its first workers, starts more workers when too few
-/// wait, and then waits until all threads have ended. When the server ends its connections, this one takes no more requests, and
-/// closes after the answers to the requests that came have left, or when the server's close limit has passed since the last answer.
-/// If the peer pauses inside a frame for longer than the server's frame limit, the connection fails.
+/// Serves the connection until it ends: starts its readers, its writer and its first workers, starts more workers when too few wait, and
+/// then waits until all threads have ended.
+/// When the server ends its connections, this one takes no more requests. It closes after the answers to the requests that came have left,
+/// or when the server's close limit has passed since the last answer. If the peer pauses inside a frame for longer than the server's frame
+/// limit, the connection fails.
 pub fn keep<R, O, I, H, W>(
     conn: &Arc<Conn<R, O, I>, Global>,
     serving: &Serving<H, W>,
@@ -66,7 +67,7 @@ where
     conn.crew().wait_for_all(rt);
 }
 
-/// Returns how long the keeper waits between two looks at a peer whose pauses are limited: a quarter of the limit.
+/// Returns how long the keeper waits between two looks, if the peer's pauses are limited: a quarter of the limit.
 fn rest_between_looks(settings: &Settings) -> Option<Duration> {
     let limit = settings.frame_limit?;
     Some(limit.max(Duration::from_millis(SHORTEST_LIMIT)) / 4)
@@ -94,7 +95,7 @@ where
     u128::from(pause.look(now, pieces)) > limit.as_nanos()
 }
 
-/// Starts the missing workers. If the system has no more threads, the workers that there are go on.
+/// Starts the missing workers. If the system has no more threads, the present workers go on.
 fn fill<R, O, I, H, W>(conn: &Arc<Conn<R, O, I>, Global>, serving: &Serving<H, W>)
 where
     R: Runtime,
@@ -109,7 +110,7 @@ where
     }
 }
 
-/// What a thread of a connection has: the connection, and the crew that counts it until it has let that go.
+/// The parts that a thread of a connection holds: the connection, and the crew that counts the thread until it has released the connection.
 #[derive(Drop)]
 struct Seat<R: Host, O: OutboundTransform + Drop, I: InboundTransform + Drop> {
     conn: Arc<Conn<R, O, I>, Global>,
@@ -126,7 +127,8 @@ impl<R: Host, O: OutboundTransform + Drop, I: InboundTransform + Drop> Seat<R, O
         })
     }
 
-    // The thread has done its work. So the descriptor is free once all of them have left.
+    // Reports that the thread has done its work, after it has released the connection. So the descriptor is free once all threads have
+    // left.
     fn leave(self) {
         let Seat { conn, crew, rt } = self;
         drop(conn);
@@ -153,7 +155,7 @@ where
     start_workers(conn, serving, workers)
 }
 
-/// Passes the result of a start on, and counts the thread out if it failed.
+/// Passes on the result of a start, and counts the thread out if the start failed.
 fn started<R, O, I, T>(conn: &Conn<R, O, I>, thread: io::Result<T>) -> Result<()>
 where
     R: Host,
@@ -212,7 +214,7 @@ where
     )
 }
 
-/// Starts so many workers, or as many as can be started.
+/// Starts `count` workers, or as many as can be started.
 fn start_workers<R, O, I, H, W>(
     conn: &Arc<Conn<R, O, I>, Global>,
     serving: &Serving<H, W>,

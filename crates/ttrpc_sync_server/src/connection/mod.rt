@@ -1,5 +1,6 @@
-//! One connection of a server with threads: two that read it in turn, one that writes where no other does, and the
-//! workers that its handlers run in where no reader handles a job itself. In `ports` what stands under its lock.
+//! One connection of a server with threads. Two threads read it in turn, and one writes when no other thread does.
+//! Workers run the handlers when no reader handles a job itself. The module `ports` has the state under the
+//! connection's lock.
 
 mod conn;
 mod context;

@@ -2,12 +2,12 @@
 ghost use Rattle.std.specs.Prelude.{◌≡◌, None};
 ghost use Rattle.ttrpc_sync_server.specs.Connection.Pauses.{lasts, paused, seen_behind};
 
-/// The pause of a peer inside a frame, as the keeper of its connection sees it by looking from time to time.
+/// The pause of a peer inside a frame. The keeper of its connection measures it by looking from time to time.
 #[derive(Clone, Copy, Debug)]
 pub struct Pause {
-    /// How many pieces had come at the last look, if the peer was inside a frame.
+    /// The number of pieces that had come at the last look, if the peer was inside a frame.
     pub pieces: Option<u64>,
-    /// The moment of the first look that saw as many pieces, in nanoseconds.
+    /// The moment of the first look that saw this number of pieces, in nanoseconds.
     pub since: u64,
 }
 
@@ -22,8 +22,9 @@ impl Pause {
         }
     }
 
-    /// Looks at the moment `now`, in nanoseconds. `pieces` is how many pieces have come, if the peer is inside a frame. Returns for how
-    /// many nanoseconds no other piece has come since then.
+    /// Looks at the moment `now`, in nanoseconds. `pieces` is the number of pieces that have come, if the peer is inside a frame. Returns
+    /// the nanoseconds since the first look that saw this number of pieces, or 0 if this look is the first or the peer isn't inside a
+    /// frame.
     pub fn look(&mut self, now: u64, pieces: Option<u64>) -> u64
         ensures result { result ≡ paused self.old now pieces }
         ensures seen { self.new ≡ seen_behind self.old now pieces }

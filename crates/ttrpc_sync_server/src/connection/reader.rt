@@ -10,9 +10,9 @@ use ttrpc_secure::{InboundTransform, OutboundTransform};
 use ttrpc_sync::Host;
 use ttrpc_transport::Watch;
 
-/// Reads until the client sends nothing more, or the connection has failed. What was asked is still answered. While the other
-/// reader waits for the turn, this one handles the jobs of what it read itself, since to wake a worker takes longer than most
-/// jobs do. `reader` is its number, by which it has the turn.
+/// Reads until the client sends nothing more, or the connection has failed. Requests that were read are still answered. While the other
+/// reader waits for the turn, this reader handles the jobs of its input itself, since waking a worker takes longer than most jobs do.
+/// `reader` is the number by which it has the turn.
 pub fn read<R, O, I, H, W>(conn: &Arc<Conn<R, O, I>, Global>, serving: &Serving<H, W>, reader: u32)
 where
     R: Host,

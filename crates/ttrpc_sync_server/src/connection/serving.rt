@@ -1,4 +1,4 @@
-//! What a connection is served with.
+//! The parts by which a connection is served.
 ghost use Rattle.std.specs.Prelude.{◌≡◌, IfErr, IfOk};
 ghost use Rattle.std.specs.Arc.{arc_value};
 ghost use Rattle.ttrpc_proto.specs.declared.error.Error.TheVariants.{NoMemory};
@@ -8,7 +8,8 @@ use std::sync::Arc;
 use ttrpc_proto::Result;
 use ttrpc_server::Methods;
 
-/// What a connection is served with: the handlers of its methods, and who is told of its faults.
+/// The parts by which a connection is served: the handlers of its methods, and the watch that
+/// learns of its faults.
 #[derive(Drop)]
 pub struct Serving<H: Drop, W: Drop> {
     pub methods: Arc<Methods<H>, Global>,
@@ -16,10 +17,12 @@ pub struct Serving<H: Drop, W: Drop> {
 }
 
 impl<H: Drop, W: Drop> Serving<H, W> {
-    /// The same handlers and the same watch, for another thread.
+    /// Returns the same handlers and the same watch, for another thread.
     pub fn try_clone(&self) -> Result<Serving<H, W>>
-        ensures methods { IfOk result (λ serving. arc_value serving.methods ≡ arc_value self.now.methods) }
-        ensures watch { IfOk result (λ serving. arc_value serving.watch ≡ arc_value self.now.watch) }
+        ensures methods { IfOk result
+            (λ serving. arc_value serving.methods ≡ arc_value self.now.methods) }
+        ensures watch { IfOk result
+            (λ serving. arc_value serving.watch ≡ arc_value self.now.watch) }
         ensures err { IfErr result (λ e. e ≡ NoMemory) }
     {
         Ok(Serving {

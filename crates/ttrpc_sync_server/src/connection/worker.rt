@@ -1,4 +1,4 @@
-//! The handler of a connection's jobs; and a worker, with the gate that it waits behind.
+//! The handler of a connection's jobs; and a worker, with the gate at which it waits.
 ghost use Rattle.std.specs.Prelude.{◌≡◌, ⊤};
 
 use crate::connection::conn::Conn;
@@ -16,7 +16,7 @@ use ttrpc_server::responses::path_response;
 use ttrpc_sync::{Connected, Gate, Handler, Host, lock_soon, work_loop};
 use ttrpc_transport::Watch;
 
-/// Hands each request to the handler of its method.
+/// A handler that hands each request to the handler of its method.
 #[derive(Drop)]
 pub struct Dispatch<
     'a,
@@ -82,7 +82,7 @@ where
     H: MethodHandler<R, O, I> + Drop,
     W: Watch + Drop,
 {
-    /// The handler of this connection's jobs.
+    /// Makes the handler of this connection's jobs.
     pub fn new<'a>(
         conn: &'a Arc<Conn<R, O, I>, Global>,
         serving: &'a Serving<H, W>,
@@ -109,7 +109,7 @@ where
     }
 }
 
-/// Lets workers wait as far as the pool allows, and reports when too few wait.
+/// A gate that lets workers wait as far as the pool allows, and reports when too few wait.
 #[derive(Drop)]
 struct PoolGate<'a, R: Host, O: OutboundTransform + Drop, I: InboundTransform + Drop> {
     conn: &'a Conn<R, O, I>,
@@ -144,7 +144,7 @@ impl<R: Host, O: OutboundTransform + Drop, I: InboundTransform + Drop> Gate
     }
 }
 
-/// Works on the connection's jobs, until the gate sends the worker away or the connection has failed.
+/// Handles the connection's jobs, until the gate sends the worker away or the connection has failed.
 pub fn work<R, O, I, H, W>(conn: &Arc<Conn<R, O, I>, Global>, serving: &Serving<H, W>)
 where
     R: Host,

@@ -1,4 +1,4 @@
-//! The settings of a server: what they are, what each call makes of them, and what the server refuses by them.
+//! The settings of a server: their values, how each call changes them, and which calls the server refuses by them.
 
 mod refusal;
 
@@ -13,34 +13,34 @@ use ttrpc_proto::Result;
 /// The settings of a server.
 #[derive(Clone, Copy, Debug)]
 pub struct Settings {
-    /// How many workers a connection starts with, and is filled up to.
+    /// The number of workers that a connection starts with, and is filled up to.
     pub thread_count_default: usize,
-    /// A connection is filled up where fewer workers wait for a job.
+    /// The number of waiting workers below which a connection is filled up.
     pub thread_count_min: usize,
-    /// More workers of a connection don't wait for a job.
+    /// The most workers of a connection that may wait for a job.
     pub thread_count_max: usize,
-    /// How long the server waits to accept again, where the system had no room for a connection.
+    /// The time that the server waits before it accepts again, after the system had no room for a connection.
     pub accept_retry_interval: Duration,
-    /// The most jobs of a connection that wait to be begun while the connection is read; `None` is no limit.
+    /// The most jobs of a connection that may wait to be begun while the connection is read; `None` is no limit.
     pub waiting_jobs: Option<u64>,
     /// The most bytes of such jobs; `None` is no limit.
     pub waiting_bytes: Option<u64>,
-    /// For how long a peer may pause inside a frame; `None` is no limit.
+    /// The longest time that a peer may pause inside a frame; `None` is no limit.
     pub frame_limit: Option<Duration>,
-    /// For how long a connection that ends stays open after its last answer, if its peer doesn't read; `None` waits until the peer has
-    /// read all.
+    /// The longest time that a connection which ends stays open after its last answer, if its peer doesn't read. `None` waits until the
+    /// peer has read all.
     pub close_limit: Option<Duration>,
-    /// Whether it has an address.
+    /// True if the server has an address.
     pub is_bound: bool,
-    /// Whether it listens.
+    /// True if the server listens.
     pub is_listening: bool,
-    /// Whether it has started, so that its services are fixed.
+    /// True if the server has started, so that its services are fixed.
     pub is_fixed: bool,
 }
 
 impl Settings {
-    /// Makes the settings of a server for which nothing is set: 3 workers, of which at least 1 and at most 5 wait, 10 seconds to accept
-    /// again, 4,096 waiting jobs and 8 MiB, no limit for pauses, 5 seconds to close, and no address.
+    /// Makes the settings of a server for which nothing is set: 3 workers, and at least 1 and at most 5 that wait; 10 seconds to accept
+    /// again. 4,096 jobs and 8 MiB may wait. Pauses have no limit, closing takes at most 5 seconds, and there is no address.
     pub fn new() -> Settings
         ensures { IsNew result }
     {
@@ -59,7 +59,7 @@ impl Settings {
         }
     }
 
-    /// Whether it may get an address: it has none.
+    /// Checks that the server may get an address: it must have none.
     pub fn check_bind(&self, alloc: Global) -> Result<()>
         ensures ok { OnOk result (bind_refusal self.now ≡ None) }
         ensures refused { IfErr result (IsRefused (bind_refusal self.now)) }
@@ -70,7 +70,7 @@ impl Settings {
         Ok(())
     }
 
-    /// Whether it may get services: it hasn't started.
+    /// Checks that the server may get services: it must not have started.
     pub fn check_register(&self, alloc: Global) -> Result<()>
         ensures ok { OnOk result (register_refusal self.now ≡ None) }
         ensures refused { IfErr result (IsRefused (register_refusal self.now)) }
@@ -81,7 +81,7 @@ impl Settings {
         Ok(())
     }
 
-    /// Whether it may listen: it has an address, and doesn't listen yet.
+    /// Checks that the server may listen: it must have an address, and not listen yet.
     pub fn check_listen(&self, alloc: Global) -> Result<()>
         ensures ok { OnOk result (listen_refusal self.now ≡ None) }
         ensures refused { IfErr result (IsRefused (listen_refusal self.now)) }
@@ -95,7 +95,7 @@ impl Settings {
         Ok(())
     }
 
-    /// Whether it may start: its counts are in order, and it may listen.
+    /// Checks that the server may start: its counts must be in order, and it must be able to listen.
     pub fn check_start(&self, alloc: Global) -> Result<()>
         ensures ok { OnOk result (start_refusal self.now ≡ None) }
         ensures refused { IfErr result (IsRefused (start_refusal self.now)) }

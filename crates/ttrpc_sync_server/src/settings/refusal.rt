@@ -1,4 +1,4 @@
-//! Why a server refuses a call, and the text of the refusal.
+//! The reasons for which a server refuses a call, and the text of each refusal.
 ghost use Rattle.std.specs.Prelude.{◌≡◌, ◌⊎◌};
 ghost use Rattle.ttrpc_proto.specs.declared.error.Error.{Error as AnError};
 ghost use Rattle.ttrpc_sync_server.specs.Settings.{text_of};
@@ -7,20 +7,20 @@ use std::alloc::Global;
 use ttrpc_proto::Error;
 use ttrpc_wire::Text;
 
-/// Why a server refuses what it is asked for.
+/// The reason for which a server refuses a call.
 #[derive(Clone, Copy, Debug, PartialEq, Eq)]
 pub enum Refusal {
     /// The default count of workers isn't below the greatest.
     NotBelowMax,
     /// The default count of workers isn't above the least.
     NotAboveMin,
-    /// It has an address already.
+    /// The server has an address already.
     SecondAddress,
-    /// It has no address.
+    /// The server has no address.
     NotBound,
-    /// It listens already.
+    /// The server listens already.
     Listening,
-    /// It has started, so its services are fixed.
+    /// The server has started, so its services are fixed.
     Started,
 }
 
@@ -38,7 +38,7 @@ impl Refusal {
         }
     }
 
-    /// The error of its text, or `NoMemory` where memory for that was refused.
+    /// Returns the error with the refusal's text, or `NoMemory` if memory for the text was refused.
     pub fn error(self, alloc: Global) -> Error
         ensures { (result ≡ AnError.Others (text_of self)) ⊎ (result ≡ AnError.NoMemory) }
     {

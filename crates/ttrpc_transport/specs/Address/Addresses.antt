@@ -1,4 +1,4 @@
--- What an address says, and what refuses one.
+-- The meaning of an address, and the errors that refuse one.
 -- Source: the Rust crate ttrpc, its prefixes and its variable `TTRPC_TCP_NODELAY_ENABLED`; the texts are this project's.
 use Rattle.std.specs.Prelude.{◌≡◌, ◌≢◌, ◌⊎◌, ℕ, List, ◌++◌, map, codes}
 use Rattle.std.specs.Char.{to_ascii_lowercase}
@@ -7,7 +7,7 @@ use Rattle.ttrpc_proto.specs.declared.error.Error.TheVariants.{Others, NoMemory}
 use Rattle.ttrpc_transport.specs.declared.address.domain.Domain.{Domain}
 use Rattle.ttrpc_transport.specs.declared.address.domain.Domain.TheVariants.{Unix, Tcp, Vsock}
 
--- what stands in front of a domain's part
+-- the prefix of an address of this domain
 abbrev pub prefix_of : Domain → List ℕ
 prefix_of Unix = codes "unix://"
 prefix_of Tcp = codes "tcp://"
@@ -17,15 +17,15 @@ prefix_of Vsock = codes "vsock://"
 abbrev pub IsAddress : List ℕ → Domain → List ℕ → Type 0
 IsAddress addr domain part = addr ≡ prefix_of domain ++ part
 
--- it is of none
+-- the address is of no domain
 abbrev pub IsUnknown : List ℕ → Type 0
 IsUnknown addr = (domain : Domain) (part : List ℕ) → addr ≢ prefix_of domain ++ part
 
--- what refuses such an address, which stands in it as it is
+-- the text that refuses such an address, with the address in it as it is
 abbrev pub unknown_text : List ℕ → List ℕ
 unknown_text addr = codes "Scheme \"" ++ addr ++ codes "\" is not supported"
 
--- the error of this text, or NoMemory, as it is where memory for the text was refused
+-- the error of this text, or `NoMemory` if memory for the text was refused
 abbrev pub IsRefusal : List ℕ → Error → Type 0
 IsRefusal text e = (e ≡ Others text) ⊎ (e ≡ NoMemory)
 

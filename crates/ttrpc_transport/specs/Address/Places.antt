@@ -1,4 +1,4 @@
--- Where a socket is bound or connected, by its address, and why nowhere.
+-- The place at which a socket is bound or connected, by its address, and why an address names none.
 -- Source: this project's; which texts are an IP address and a port is std's, by `SocketAddr`'s `parse`.
 use Rattle.std.specs.Prelude.{◌≡◌, ◌⊎◌, ℕ, List, [], ◌∷◌, ◌++◌, codes, None}
 use Rattle.std.specs.Net.Grammar.{IsSocketText}
@@ -19,12 +19,12 @@ abbrev pub IsPlace : List ℕ → Place → Type 0
 IsPlace addr (Tcp socket) = (part : List ℕ) × IsAddress addr TcpDomain part × IsSocketText part socket
 IsPlace addr (Unix name) = IsAddress addr UnixDomain name.now × ¬ (IsAbstract name.now)
 
--- no IP address and port is written so, and the error begins with this text, or there was no memory for it
+-- the part is no IP address and port, and the error begins with this text, or memory for it was refused
 abbrev pub IsNoSocketAddr : List ℕ → Error → Type 0
 IsNoSocketAddr part e =
     ((socket : SocketAddr) → ¬ (IsSocketText part socket)) × IsOthers (codes "Failed to parse TCP address '" ++ part ++ codes "': ") None e
 
--- the address names no place, for which this is the error
+-- the address names no place, and this is the error
 abbrev pub IsNoPlace : List ℕ → Error → Type 0
 IsNoPlace addr e =
     (IsUnknown addr × IsRefusal (unknown_text addr) e)

@@ -14,20 +14,21 @@ pub record IsTwoParts (text first second : List ℕ) : Type 0 where
   pub plain_first : HasNoColon first
   pub plain_second : HasNoColon second
 
--- decimal digits that write the number, which fits 32 bits, and in front of them nothing or a plus
+-- decimal digits that write the number, which fits 32 bits, after nothing or a plus
 abbrev pub IsNumberText : List ℕ → ℕ → Type 0
 IsNumberText text n =
     IsNumeral 10 (without_leading_plus text) × (digits_value 10 (without_leading_plus text) ≡ n) × (n < 2 ^ 32)
 
--- such a number, or `-1` between white space, which is any cid
+-- such a number, or `-1` between white space, which means any cid
 abbrev pub IsCidText : List ℕ → ℕ → Type 0
 IsCidText text cid = ((trim text ≡ codes "-1") × (cid ≡ 4294967295)) ⊎ ((trim text ≢ codes "-1") × IsNumberText text cid)
 
--- the part says this cid and this port
+-- the part names this cid and this port
 abbrev pub IsVsockText : List ℕ → ℕ → ℕ → Type 0
 IsVsockText part cid port = (first second : List ℕ) × IsTwoParts part first second × IsCidText first cid × IsNumberText second port
 
--- It says none, for the reason that this text tells. The cid is read before the port.
+-- The part names no cid and port, for the reason that this text reports. The cid is read before the
+-- port.
 abbrev pub IsNotVsock : List ℕ → List ℕ → Type 0
 IsNotVsock part text =
     (((first second : List ℕ) → ¬ (IsTwoParts part first second)) × (text ≡ codes "sockaddr " ++ part ++ codes " is not right for vsock"))

@@ -6,7 +6,7 @@ use crate::address::refusal::refusal;
 use std::alloc::Global;
 use ttrpc_proto::Result;
 
-/// What kind of socket an address is of.
+/// The kind of socket that an address names.
 #[derive(Clone, Copy, Debug, PartialEq, Eq)]
 pub enum Domain {
     Unix,
@@ -14,8 +14,8 @@ pub enum Domain {
     Vsock,
 }
 
-/// The domain that the address names by its prefix, and the part behind it, as it is. An address with none of the prefixes
-/// `unix://`, `tcp://` and `vsock://` is refused as `Others`: `Scheme "A" is not supported`, where A is the address.
+/// Returns the domain that the address names by its prefix, and the part after the prefix, as it is. An address with none of the prefixes
+/// `unix://`, `tcp://` and `vsock://` is refused as `Others`: `Scheme "A" is not supported`, in which A is the address.
 pub fn parse_sockaddr(alloc: Global, addr: &str) -> Result<(Domain, &str)>
     ensures ok { IfOk result (λ parsed. IsAddress addr.now parsed.0 parsed.1.now) }
     ensures err { IfErr result (λ e. IsUnknown addr.now × IsRefusal (unknown_text addr.now) e) }

@@ -1,5 +1,5 @@
-//! Addresses of sockets, as texts: `unix://PATH`, `tcp://IP:PORT` and `vsock://CID:PORT`, and what a bind or a connect
-//! reads in them. It reaches no system.
+//! Addresses of sockets, as texts: `unix://PATH`, `tcp://IP:PORT` and `vsock://CID:PORT`, and how a bind or a connect
+//! reads them. This module makes no calls of the system.
 
 mod domain;
 mod nodelay;

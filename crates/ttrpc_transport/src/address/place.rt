@@ -1,4 +1,4 @@
-//! Where a socket is bound or connected.
+//! The place at which a socket is bound or connected.
 ghost use Rattle.std.specs.Prelude.{IfOk, IfErr};
 ghost use Rattle.std.specs.Net.Grammar.{IsSocketText};
 ghost use Rattle.ttrpc_transport.specs.Address.Places.{IsPlace, IsNoPlace, IsNoSocketAddr};
@@ -10,18 +10,18 @@ use std::net::SocketAddr;
 use ttrpc_proto::Result;
 use ttrpc_proto::error::causes::others_of;
 
-/// Where a socket is bound or connected.
+/// The place at which a socket is bound or connected.
 #[derive(Clone, Copy, Debug, PartialEq)]
 pub enum Place<'a> {
-    /// At an IP address and a port.
+    /// An IP address and a port.
     Tcp(SocketAddr),
-    /// At a path.
+    /// A path.
     Unix(&'a str),
 }
 
-/// The place that the address names. Refused as `Others` is an address that `parse_sockaddr` refuses, one of vsock, a Unix
-/// name that is abstract, which begins with `@` or is empty (the system picks one then), and a part of TCP that std doesn't read as a `SocketAddr`, a host's name
-/// among them.
+/// Returns the place that the address names. These addresses are refused as `Others`: one that `parse_sockaddr` refuses, one of vsock, an
+/// abstract Unix name, and a part of TCP that std doesn't read as a `SocketAddr`, such as a host's name. A Unix name is abstract if it
+/// begins with `@`, or if it is empty, since the system picks an abstract name then.
 pub fn socket_of(alloc: Global, addr: &str) -> Result<Place<'_>>
     ensures ok { IfOk result (IsPlace addr.now) }
     ensures err { IfErr result (IsNoPlace addr.now) }
@@ -38,7 +38,7 @@ pub fn socket_of(alloc: Global, addr: &str) -> Result<Place<'_>>
     }
 }
 
-// The IP address and port that the part of a TCP address names.
+// Returns the IP address and port that the part of a TCP address names.
 fn socket_addr_of(alloc: Global, part: &str) -> Result<SocketAddr>
     ensures ok { IfOk result (IsSocketText part.now) }
     ensures err { IfErr result (IsNoSocketAddr part.now) }
@@ -46,7 +46,7 @@ fn socket_addr_of(alloc: Global, part: &str) -> Result<SocketAddr>
     match part.parse::<SocketAddr>() {
         Ok(address) => Ok(address),
         Err(error) => {
-            // Of what the error prints nothing is known, so it is printed by itself, behind what is.
+            // Nothing is known of the text that the error prints, so it is printed by itself, after the known text.
             let prefix = format!(in alloc; "Failed to parse TCP address '{part}': ")?;
             Err(others_of(alloc, prefix.as_str(), &error))
         }

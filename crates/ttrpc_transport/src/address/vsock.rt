@@ -8,14 +8,15 @@ use crate::address::refusal::refusal;
 use std::alloc::Global;
 use ttrpc_proto::Result;
 
-/// The cid that stands for any.
+/// The cid that means any cid.
 const ANY_CID: u32 = u32::MAX;
 
-/// Cid and port of the part `CID:PORT` of a vsock address. The cid `-1`, around which white space may stand, is 4294967295,
-/// which is any cid. Anything else is refused as `Others`, and the cid is read first.
+/// Returns the cid and the port of the part `CID:PORT` of a vsock address. The cid `-1`, which may have white space around it, is
+/// 4294967295, which means any cid. Anything else is refused as `Others`, and the cid is read first.
 pub fn parse_vsock(alloc: Global, addr: &str) -> Result<(u32, u32)>
     ensures ok { IfOk result (λ parsed. IsVsockText addr.now parsed.0 parsed.1) }
-    ensures err { IfErr result (λ e. (text : List ℕ) × IsNotVsock addr.now text × IsRefusal text e) }
+    ensures err { IfErr result
+        (λ e. (text : List ℕ) × IsNotVsock addr.now text × IsRefusal text e) }
 {
     let Some((cid_text, port_text)) = two_parts(addr) else {
         return Err(refusal(format!(in alloc; "sockaddr {addr} is not right for vsock")));
@@ -29,7 +30,7 @@ pub fn parse_vsock(alloc: Global, addr: &str) -> Result<(u32, u32)>
     Ok((cid, port))
 }
 
-// What stands in front of the colon and behind it; `None` unless there is exactly one.
+// Returns the texts before and after the colon; `None` unless there is exactly one colon.
 fn two_parts(text: &str) -> Option<(&str, &str)>
     ensures { MatchOption result ((first second : List ℕ) → ¬ (IsTwoParts text.now first second))
         (λ parts. IsTwoParts text.now parts.0.now parts.1.now) }

@@ -1,4 +1,4 @@
-//! The port from which a server's workers take jobs, and how any thread takes and reports one.
+//! The port from which a server's workers take jobs, and how any thread takes a job and reports its outcome.
 ghost use Rattle.std.specs.Prelude.{◌≡◌, Err, IfErr, IfNone, IfSome, None, Ok, OnErr, OnOk, Some};
 ghost use Rattle.ttrpc_proto.specs.declared.error.Error.{Error as AnError};
 ghost use Rattle.ttrpc_server.specs.Protocol.{AnswersError, Finishes, Hands, RefusesAnswer, RefusesFinish};
@@ -13,7 +13,7 @@ use ttrpc_secure::{InboundTransform, OutboundTransform};
 use ttrpc_server::{Job, JobId, ServerCore, jobs_on};
 use ttrpc_sync::{Connected, Handler, JobPort, PortState, lock_soon, wait_soon};
 
-/// The port of one of a server's workers.
+/// The port of one worker of a server.
 #[derive(Drop)]
 pub struct ServerJobs<'a, X: Wait, O: OutboundTransform + Drop, I: InboundTransform + Drop> {
     rt: &'a X,
@@ -24,7 +24,7 @@ pub struct ServerJobs<'a, X: Wait, O: OutboundTransform + Drop, I: InboundTransf
 }
 
 impl<X: Wait, O: OutboundTransform + Drop, I: InboundTransform + Drop> ServerJobs<'_, X, O, I> {
-    /// The port of this connection.
+    /// Makes the port of this connection.
     pub fn new<'a>(
         rt: &'a X,
         alloc: Global,
@@ -42,12 +42,13 @@ impl<X: Wait, O: OutboundTransform + Drop, I: InboundTransform + Drop> ServerJob
     /// Takes the job that has waited longest from a core that is lent under the lock, as `take` does.
     pub fn take_on(core: &mut ServerCore<O, I>) -> Option<Job>
         ensures handed { IfSome result (λ job. Hands core.old job core.new) }
-        ensures none { IfNone result ((core.new ≡ core.old) × (core.old.connection.failure ≡ None → NoneWaits core.old.state.jobs.list)) }
+        ensures none { IfNone result ((core.new ≡ core.old)
+            × (core.old.connection.failure ≡ None → NoneWaits core.old.state.jobs.list)) }
     {
         core.take_job()
     }
 
-    /// Ends a job of a core that is lent under the lock after its handler has ended, as `done` does: finishes the job, or answers it by
+    /// Ends a job after its handler has ended, as `done` does, on a core that is lent under the lock. Finishes the job, or answers it with
     /// the handler's error, by which the connection fails.
     pub fn done_on(
         core: &mut ServerCore<O, I>,
@@ -55,10 +56,15 @@ impl<X: Wait, O: OutboundTransform + Drop, I: InboundTransform + Drop> ServerJob
         id: JobId,
         outcome: Result<(), Error>,
     ) -> Result<(), Error>
+        // At an `Ok` the job has ended, if its handler succeeded, or the handler's error was answered.
         ensures finished { outcome ≡ Ok tt → OnOk result (Finishes core.old id core.new) }
-        ensures failed { (e : AnError) → outcome ≡ Err e → OnOk result (AnswersError O.OutboundTransform core.old.state.rules core.old id e core.new) }
+        ensures failed { (e : AnError) → outcome ≡ Err e
+            → OnOk result
+            (AnswersError O.OutboundTransform core.old.state.rules core.old id e core.new) }
+        // An error is one with which the end or the answer may be refused, and changes nothing.
         ensures refused { outcome ≡ Ok tt → IfErr result (RefusesFinish core.old id) }
-        ensures unsent { (e : AnError) → outcome ≡ Err e → IfErr result (RefusesAnswer O.OutboundTransform core.old id (Err e)) }
+        ensures unsent { (e : AnError) → outcome ≡ Err e
+            → IfErr result (RefusesAnswer O.OutboundTransform core.old id (Err e)) }
         ensures err { OnErr result (core.new ≡ core.old) }
     {
         jobs_on::done_on(core, alloc, id, outcome)
@@ -102,7 +108,7 @@ impl<
     }
 }
 
-/// Reports what came of a job. True: the connection has failed.
+/// Reports the outcome of a job. Returns whether the connection has failed.
 pub(crate) fn report<X: Wait, O: OutboundTransform + Drop, I: InboundTransform + Drop>(
     rt: &X,
     alloc: Global,
@@ -124,9 +130,9 @@ pub(crate) fn report<X: Wait, O: OutboundTransform + Drop, I: InboundTransform +
     has_failed
 }
 
-/// The job that waits longest, if there is one, for this reader or a worker. Where another waits behind it, a worker is woken,
-/// unless the reader takes that, too, since it has the turn. A reader that has the turn gets no job while it reads or waits for
-/// room. A reader that waits for room is woken when there is some.
+/// Takes the job that waits longest, if there is one, for this reader or a worker. If another job waits after it, a worker is woken, unless
+/// the reader has the turn and so takes that job, too. A reader that has the turn gets no job while it reads or waits for room. A reader
+/// that waits for room is woken when there is some.
 pub(crate) fn waiting_job<X: Wait, O: OutboundTransform + Drop, I: InboundTransform + Drop>(
     rt: &X,
     shared: &ServerShared<O, I>,
@@ -150,7 +156,7 @@ pub(crate) fn waiting_job<X: Wait, O: OutboundTransform + Drop, I: InboundTransf
     Some(job)
 }
 
-/// Waits until there is a job. None: the connection has failed.
+/// Waits until there is a job. Returns `None` if the connection has failed.
 fn wait_for_job<X: Wait, O: OutboundTransform + Drop, I: InboundTransform + Drop>(
     rt: &X,
     shared: &ServerShared<O, I>,
@@ -166,7 +172,7 @@ fn wait_for_job<X: Wait, O: OutboundTransform + Drop, I: InboundTransform + Drop
     unreachable!()
 }
 
-/// Sleeps until a job may wait. False: the connection has failed.
+/// Sleeps until a job may wait. Returns false if the connection has failed.
 fn sleep_for_job<X: Wait, O: OutboundTransform + Drop, I: InboundTransform + Drop>(
     rt: &X,
     shared: &ServerShared<O, I>,

@@ -1,4 +1,4 @@
-//! The ports of a server's connection: what its threads share, how its readers take turns, how much may wait, and where jobs
+//! The ports of a server's connection: the state that its threads share, how its readers take turns, how much input may wait, and how jobs
 //! are taken.
 
 mod backlog;

@@ -1,37 +1,37 @@
-//! Which of a server's two readers reads, and when the other takes the turn from it.
+//! The turn to read, which a server's two readers share, and when one reader takes it from the other.
 ghost use Rattle.std.specs.Prelude.{◌≡◌};
 ghost use Rattle.ttrpc_sync_server.specs.Connection.Relays.{at_turn, has_turn, may_handle, new_relay, relay_begun, relay_wanted};
 
 /// The next action of a reader that wants the turn.
 #[derive(Clone, Copy, Debug, PartialEq, Eq)]
 pub enum AtTurn {
-    /// It reads: it has the turn.
+    /// The reader reads: it has the turn.
     Reads,
-    /// It looks again after a while, and has seen that so many rounds of jobs were begun.
+    /// The reader looks again after a while. It has seen that this many rounds of jobs were begun.
     LooksAgain(u64),
-    /// It sleeps until it is woken.
+    /// The reader sleeps until it is woken.
     Sleeps,
 }
 
-/// The turn to read a server's connection, which two readers share. Who has it also handles the jobs of what it read, while
-/// the other looks from time to time whether it still does. If so, the other takes the turn, and workers take the jobs that
-/// are left. It stands under the connection's lock.
+/// The turn to read a server's connection, which two readers share. The reader that has the turn also handles the jobs of its input, while
+/// the other reader checks from time to time whether it still does. If so, the other reader takes the turn, and workers take the jobs that
+/// are left. The connection's lock guards the turn.
 #[derive(Debug, Drop)]
 pub struct Relay {
     /// The number of the reader that has the turn.
     pub reader: Option<u32>,
-    /// Whether that one handles jobs of what it read.
+    /// True while the reader with the turn handles jobs of its input.
     pub handles: bool,
-    /// How often a reader began to handle jobs.
+    /// The number of times that a reader began to handle jobs.
     pub rounds: u64,
-    /// Whether the other reader waits for the turn.
+    /// True if the other reader waits for the turn.
     pub other_waits: bool,
-    /// Whether that one sleeps, and wasn't woken yet.
+    /// True if the other reader sleeps, and hasn't been woken yet.
     pub other_sleeps: bool,
 }
 
 impl Relay {
-    /// Nobody's turn, and nobody waits for it.
+    /// Makes a turn that no reader has, and for which none waits.
     pub fn new() -> Relay
         ensures { result ≡ new_relay }
     {
@@ -44,8 +44,8 @@ impl Relay {
         }
     }
 
-    /// A reader wants to read, or to read on, and says how many rounds it had seen when it looked last. It has the turn where
-    /// it had it, where nobody has it, and where the other handles jobs of the round that was seen.
+    /// Asks for the turn, for a reader that saw `seen` rounds at its last look. Grants the turn if this reader holds it, if nobody does, or
+    /// if the other reader is still handling the round seen at the last look.
     pub fn wants(&mut self, reader: u32, seen: Option<u64>) -> AtTurn
         ensures result { result ≡ at_turn self.old reader seen }
         ensures relay { self.new ≡ relay_wanted self.old reader seen }
@@ -71,8 +71,8 @@ impl Relay {
         }
     }
 
-    /// Who has the turn begins to handle jobs of what it read. True: the other is to be woken, since it is to look whether
-    /// that takes long.
+    /// Begins a round: the reader that has the turn handles jobs of its input. Returns true if the other reader is to be woken, so that it
+    /// checks whether that takes long.
     pub fn begins(&mut self) -> bool
         ensures result { result ≡ self.old.other_sleeps }
         ensures relay { self.new ≡ relay_begun self.old }
@@ -84,8 +84,8 @@ impl Relay {
         wakes
     }
 
-    /// Returns whether this reader, or a worker if there is none, may take a job. A reader that has the turn may do so only after it has
-    /// begun a round of jobs; before, it reads or waits for room.
+    /// Returns whether this reader may take a job, or a worker if there is no reader. A reader that has the turn may do so only after it
+    /// has begun a round of jobs; before, it reads or waits for room.
     pub fn may_handle(&self, reader: Option<u32>) -> bool
         ensures { result ≡ may_handle self.now reader }
     {
@@ -95,7 +95,7 @@ impl Relay {
         }
     }
 
-    /// Whether this reader has the turn.
+    /// Returns whether this reader has the turn.
     pub fn has_turn(&self, reader: u32) -> bool
         ensures { result ≡ has_turn self.now reader }
     {

@@ -1,9 +1,8 @@
-//! What the threads of a server's connection share.
+//! The state that the threads of a server's connection share.
 ghost use Rattle.std.specs.Prelude.{◌≡◌, ◌↔◌, ◌+◌, ◌-◌, ◌^◌, ◌<◌, ◌≤◌, ◌||◌, min, length, if◌then◌else◌, is_some, false, nat_eq, true, IfNone, IfSome, IsFalse, IsTrue, MatchOption, IfOk};
 ghost use Rattle.std.specs.Option.{option_map};
 ghost use Rattle.ttrpc_connection.specs.OneEnd.{Ends, Lends, TakesOrDrains, failing, lending, reporting};
 ghost use Rattle.ttrpc_connection.specs.declared.failure.Failure.{Failure as AFailure};
-ghost use Rattle.ttrpc_proto.specs.declared.error.Error.{Error as AnError};
 ghost use Rattle.ttrpc_server.specs.Protocol.{drained, serving};
 ghost use Rattle.ttrpc_sync_server.specs.Connection.Held.{IsFed, IsInsideFrame, IsQuiet, LendsFrame, MayTellEnd, asleep, calls_for_next, calls_worker, has_bytes, is_alive, is_answered, keeps_jobs, on_their_way, reads_on, relay_behind, reported_to, waiting_of, woken_for};
 ghost use Rattle.ttrpc_sync_server.specs.Connection.Backlogs.{calls_reader, is_full, with_begun, with_piece, with_reader};
@@ -24,11 +23,11 @@ use ttrpc_sync::{
     Connected, Held, Loan, Next, PoolCore, ReadEnd, Taken, Turn, WriteEnd, lock_soon, wait_soon,
 };
 
-/// For how many microseconds a reader that waits for the turn lets the other handle jobs, once it has been woken. Twice as
-/// many pass before its next look wherever the other has come back and read on, up to `LONGEST_PAUSE`.
+/// The pause in microseconds between two checks by the waiting reader. It doubles, up to `LONGEST_PAUSE`, whenever the other reader has
+/// read on meanwhile.
 const PAUSE: u64 = 100;
 
-/// How many microseconds pass at most between two looks. So a job waits behind another's handler for at most twice as long.
+/// The longest pause in microseconds between two checks. So a job waits for another job's handler for at most twice as long.
 const LONGEST_PAUSE: u64 = 1600;
 
 /// The port of a server's reader. It wakes a worker, the writer and the other reader.
@@ -37,50 +36,54 @@ pub type ServerRead<'a, X, O, I> = ReadEnd<'a, X, ServerShared<O, I>>;
 /// The port of one of a server's writers.
 pub type ServerWrite<'a, X, O, I> = WriteEnd<'a, X, ServerShared<O, I>>;
 
-/// Who is to be woken for a piece.
+/// The threads to wake for a piece.
 #[derive(Clone, Copy, Debug)]
 pub struct Woken {
-    /// One of the workers that sleep.
+    /// True for one of the workers that sleep.
     pub worker: bool,
-    /// The writer thread.
+    /// True for the writer thread.
     pub writer: bool,
-    /// The reader that waits for the turn.
+    /// True for the reader that waits for the turn.
     pub reader: bool,
 }
 
-/// What stands under the lock of a server's connection. At most as many workers wait as its pool lets in.
+/// The state under the lock of a server's connection. At most as many workers wait as its pool lets in.
 #[derive(Drop)]
 pub struct ServerHeld<O, I> {
     pub core: ServerCore<O, I>,
     pub turn: Turn,
     pub pool: PoolCore,
-    /// Workers that were started, and haven't come to wait yet.
+    /// The number of workers that were started, and haven't come to wait yet.
     pub starting: usize,
-    // Workers that sleep, and weren't woken yet.
+    // The number of workers that sleep, and weren't woken yet.
     sleeping: u64,
-    // Workers that were woken, and haven't looked for a job since.
+    // The number of workers that were woken, and haven't looked for a job since.
     coming: u64,
     /// The turn to read.
     pub relay: Relay,
     /// The input that waits to be handled.
     pub backlog: Backlog,
-    /// Whether the reader is at its end. The core isn't told before all jobs have ended and all answers have left.
+    /// True if the reader is at its end. The core learns this only after all jobs have ended and all answers have left.
     pub has_ended: bool,
-    /// Whether a handler's thread has the turn to write, for its own answer.
+    /// True if a handler's thread has the turn to write, for its own answer.
     pub handler_writes: bool,
 }
 
 impl<O: OutboundTransform + Drop, I: InboundTransform + Drop> ServerHeld<O, I> {
-    /// Makes the state of this core, this pool and this backlog. Nobody has the turn to write.
+    /// Makes the state of this core, this pool and this backlog. No thread has the turn to write.
     pub fn new(core: ServerCore<O, I>, pool: PoolCore, backlog: Backlog) -> Self
+        // The core is this one, and no thread has the turn to write.
         ensures core { result.core ≡ core }
         ensures turn { result.turn ≡ record { is_taken = false; sleeps = false } }
+        // The pool is this one, and no worker starts, sleeps or is on its way.
         ensures pool { result.pool ≡ pool }
         ensures starting { result.starting ≡ 0 }
         ensures sleeping { result.sleeping ≡ 0 }
         ensures coming { result.coming ≡ 0 }
+        // No reader has the turn to read or waits for it. The backlog is this one.
         ensures relay { result.relay ≡ new_relay }
         ensures backlog { result.backlog ≡ backlog }
+        // The input hasn't ended, and no handler writes.
         ensures has_ended { result.has_ended ≡ false }
         ensures handler_writes { result.handler_writes ≡ false }
     {
@@ -100,13 +103,14 @@ impl<O: OutboundTransform + Drop, I: InboundTransform + Drop> ServerHeld<O, I> {
 
     /// Counts a job that was taken out of the backlog.
     pub(crate) fn begun(&mut self, job: &Job)
-        ensures { self.new ≡ record self.old { backlog = with_begun self.old.backlog job.now.header.length (waiting_of self.old.core) } }
+        ensures { self.new
+            ≡ record self.old { backlog = with_begun self.old.backlog job.now.header.length (waiting_of self.old.core) } }
     {
         self.backlog
             .begun(job.header.length, self.core.jobs_waiting());
     }
 
-    /// Returns whether too much waits for more to be read.
+    /// Returns whether too much input waits for more to be read.
     fn is_full(&self) -> bool
         ensures { result ≡ is_full self.now.backlog (waiting_of self.now.core) }
     {
@@ -115,8 +119,10 @@ impl<O: OutboundTransform + Drop, I: InboundTransform + Drop> ServerHeld<O, I> {
 
     /// Returns how many pieces have come, if the last one ended inside a frame and more is read.
     pub(crate) fn pieces_inside_frame(&self) -> Option<u64>
-        ensures some { IfSome result (λ count. (count ≡ self.now.backlog.pieces) × IsInsideFrame self.now.core self.now.has_ended self.now.backlog) }
-        ensures none { IfNone result (¬ (IsInsideFrame self.now.core self.now.has_ended self.now.backlog)) }
+        ensures some { IfSome result (λ count. (count ≡ self.now.backlog.pieces)
+            × IsInsideFrame self.now.core self.now.has_ended self.now.backlog) }
+        ensures none { IfNone result
+            (¬ (IsInsideFrame self.now.core self.now.has_ended self.now.backlog)) }
     {
         if self.has_ended || self.is_full() || self.core.at_boundary() {
             return None;
@@ -127,7 +133,8 @@ impl<O: OutboundTransform + Drop, I: InboundTransform + Drop> ServerHeld<O, I> {
     /// Returns whether the reader that has the turn waits for room.
     pub(crate) fn waits_to_read_on(&mut self) -> bool
         ensures result { result ≡ is_full self.old.backlog (waiting_of self.old.core) }
-        ensures rest { self.new ≡ record self.old { backlog = with_reader self.old.backlog result } }
+        ensures rest { self.new
+            ≡ record self.old { backlog = with_reader self.old.backlog result } }
     {
         let waits = self.is_full();
         self.backlog.reader_waits = waits;
@@ -137,7 +144,8 @@ impl<O: OutboundTransform + Drop, I: InboundTransform + Drop> ServerHeld<O, I> {
     /// Returns whether a reader that waits for room is to be woken.
     pub(crate) fn calls_reader(&mut self) -> bool
         ensures result { result ≡ calls_reader self.old.backlog (waiting_of self.old.core) }
-        ensures rest { self.new ≡ record self.old { backlog = with_reader self.old.backlog (if result then false else self.old.backlog.reader_waits) } }
+        ensures rest { self.new
+            ≡ record self.old { backlog = with_reader self.old.backlog (if result then false else self.old.backlog.reader_waits) } }
     {
         let calls = self.backlog.reader_waits && !self.is_full();
         if calls {
@@ -146,11 +154,13 @@ impl<O: OutboundTransform + Drop, I: InboundTransform + Drop> ServerHeld<O, I> {
         calls
     }
 
-    /// Whether a worker is to be woken for a job that still waits, where none is on its way. It wakes the next one, so no job
-    /// waits behind another's handler while a worker sleeps, and fast handlers leave nothing to most of them.
+    /// Returns whether a worker is to be woken for a job that still waits. None is woken while another is on its way. Each worker that
+    /// comes wakes the next, so no job waits for another job's handler while a worker sleeps. Fast handlers leave no jobs to most workers,
+    /// which sleep on.
     pub(crate) fn calls_worker(&mut self) -> bool
         ensures result { result ≡ calls_worker self.old.core self.old.sleeping self.old.coming }
-        ensures rest { self.new ≡ record self.old { sleeping = asleep result self.old.sleeping; coming = on_their_way result self.old.coming } }
+        ensures rest { self.new
+            ≡ record self.old { sleeping = asleep result self.old.sleeping; coming = on_their_way result self.old.coming } }
     {
         let calls = self.core.jobs_waiting() > 0 && self.sleeping > 0 && self.coming == 0;
         if calls {
@@ -160,9 +170,10 @@ impl<O: OutboundTransform + Drop, I: InboundTransform + Drop> ServerHeld<O, I> {
         calls
     }
 
-    /// A worker that slept looks for a job: the one that was woken, or one that woke by itself.
+    /// Counts a worker that slept and now looks for a job: the one that was woken, or one that woke by itself.
     pub(crate) fn comes(&mut self)
-        ensures { self.new ≡ (if nat_eq self.old.coming 0 then record self.old { sleeping = self.old.sleeping - 1 }
+        ensures { self.new
+            ≡ (if nat_eq self.old.coming 0 then record self.old { sleeping = self.old.sleeping - 1 }
             else record self.old { coming = self.old.coming - 1 }) }
     {
         if self.coming == 0 {
@@ -172,17 +183,19 @@ impl<O: OutboundTransform + Drop, I: InboundTransform + Drop> ServerHeld<O, I> {
         }
     }
 
-    /// A worker goes to sleep.
+    /// Counts a worker that goes to sleep.
     pub(crate) fn sleep(&mut self)
-        ensures { self.new ≡ record self.old { sleeping = min (self.old.sleeping + 1) (2 ^ 64 - 1) } }
+        ensures { self.new
+            ≡ record self.old { sleeping = min (self.old.sleeping + 1) (2 ^ 64 - 1) } }
     {
         self.sleeping = self.sleeping.saturating_add(1);
     }
 
-    /// Returns whether the writer thread is to be woken after a job has ended: this may be the last job of an input that has ended.
+    /// Returns whether the writer thread is to be woken after a job has ended. This may be the last job of an input that has ended.
     pub(crate) fn wakes_behind_job(&mut self) -> bool
         ensures wakes { result ≡ wakes_writer self.old.turn self.old.has_ended }
-        ensures rest { self.new ≡ record self.old { turn = turn_waking self.old.turn self.old.has_ended } }
+        ensures rest { self.new
+            ≡ record self.old { turn = turn_waking self.old.turn self.old.has_ended } }
     {
         self.has_ended && self.turn.wakes()
     }
@@ -195,7 +208,7 @@ impl<O: OutboundTransform + Drop, I: InboundTransform + Drop> ServerHeld<O, I> {
         self.ended();
     }
 
-    /// Returns whether each request is answered and no more come: no job waits, and none is under way but the job of a handler that
+    /// Returns whether each request is answered and no more come: no job waits, and none is under way except the job of a handler that
     /// writes its own answer.
     pub(crate) fn is_answered(&self) -> bool
         ensures { result ≡ is_answered self.now.core self.now.has_ended self.now.handler_writes }
@@ -205,18 +218,19 @@ impl<O: OutboundTransform + Drop, I: InboundTransform + Drop> ServerHeld<O, I> {
     }
 
     #[tactic(auto, using(ttrpc_server::proofs::Keyed::filter_fewer))]
-    // No job is under way, and all that was queued was written.
+    // Returns whether no job is under way, and all queued bytes were written.
     fn is_quiet(&self) -> bool
         ensures { IsTrue result ↔ IsQuiet self.now.core }
     {
         self.core.jobs_taken() == 0 && self.core.jobs_waiting() == 0 && self.core.lendable() == 0
     }
 
-    // Where nobody writes for himself, all that was written is flushed, too. So behind an end of the input the core is told
-    // of it then.
+    // Reports the end of the input to the core, if it has come, the connection is quiet and no other thread writes. Then all written bytes
+    // are flushed, too.
     fn tell_end(&mut self, has_turn: bool)
         ensures told { MayTellEnd self.old.has_ended self.old.core self.new.core }
-        ensures tells { self.old.has_ended ≡ true → (self.old.turn.is_taken ≡ true → has_turn ≡ true) → IsQuiet self.old.core
+        ensures tells { self.old.has_ended ≡ true
+            → (self.old.turn.is_taken ≡ true → has_turn ≡ true) → IsQuiet self.old.core
             → Ends self.old.core.connection self.new.core.connection }
         ensures rest { self.new ≡ record self.old { core = self.new.core } }
     {
@@ -226,8 +240,8 @@ impl<O: OutboundTransform + Drop, I: InboundTransform + Drop> ServerHeld<O, I> {
         }
     }
 
-    /// How many workers are to be started: as many as the pool says, but for those that were started already and haven't
-    /// come to wait yet.
+    /// Returns how many workers are to be started: the number that the pool asks for, less the workers that were started already and
+    /// haven't come to wait yet.
     pub fn to_start(&self) -> usize
         ensures few { self.now.pool.waiting < self.now.pool.min
             → result ≡ (self.now.pool.default - self.now.pool.waiting) - self.now.starting }
@@ -236,27 +250,32 @@ impl<O: OutboundTransform + Drop, I: InboundTransform + Drop> ServerHeld<O, I> {
         self.pool.to_start().saturating_sub(self.starting)
     }
 
-    /// So many workers are started.
+    /// Counts `count` workers that are started.
     pub fn starts(&mut self, count: usize)
-        ensures { self.new ≡ record self.old { starting = min (self.old.starting + count) (2 ^ 64 - 1) } }
+        ensures { self.new
+            ≡ record self.old { starting = min (self.old.starting + count) (2 ^ 64 - 1) } }
     {
         self.starting = self.starting.saturating_add(count);
     }
 
-    /// So many workers that were to be started don't come.
+    /// Counts out `count` workers that were to be started, and don't come.
     pub fn gives_up(&mut self, count: usize)
         ensures { self.new ≡ record self.old { starting = self.old.starting - count } }
     {
         self.starting = self.starting.saturating_sub(count);
     }
 
-    /// A worker wants to wait for a job, for the first time or not. False: enough wait.
+    /// Asks to wait for a job. `is_new` says that the worker asks for the first time. Returns false if enough workers wait.
     pub fn enter(&mut self, is_new: bool) -> bool
+        // The result is true exactly if fewer workers wait than may. Then one more waits, and otherwise the pool is as it was.
         ensures room { IsTrue result ↔ (self.old.pool.waiting < self.old.pool.max) }
-        ensures entered { IsTrue result → self.new.pool ≡ with_waiting self.old.pool (self.old.pool.waiting + 1) }
+        ensures entered { IsTrue result
+            → self.new.pool ≡ with_waiting self.old.pool (self.old.pool.waiting + 1) }
         ensures refused { IsFalse result → self.new.pool ≡ self.old.pool }
+        // A new worker no longer counts as starting, and nothing else changed.
         ensures starting { self.new.starting ≡ self.old.starting - (if is_new then 1 else 0) }
-        ensures rest { self.new ≡ record self.old { pool = self.new.pool; starting = self.new.starting } }
+        ensures rest { self.new
+            ≡ record self.old { pool = self.new.pool; starting = self.new.starting } }
     {
         if is_new {
             self.gives_up(1);
@@ -264,13 +283,15 @@ impl<O: OutboundTransform + Drop, I: InboundTransform + Drop> ServerHeld<O, I> {
         self.pool.enter()
     }
 
-    /// A worker waits for a job no longer. True: fewer than the least count are left that wait. Where nobody waits nothing
-    /// happens.
+    /// Reports that a worker waits for a job no longer. Returns true if fewer workers than the least count still wait. If no worker waits,
+    /// nothing happens.
     pub fn leave(&mut self) -> bool
-        ensures few { 0 < self.old.pool.waiting → (IsTrue result ↔ (self.new.pool.waiting < self.old.pool.min)) }
+        ensures few { 0 < self.old.pool.waiting
+            → (IsTrue result ↔ (self.new.pool.waiting < self.old.pool.min)) }
         ensures left { 0 < self.old.pool.waiting
             → self.new.pool ≡ with_waiting self.old.pool (self.old.pool.waiting - 1) }
-        ensures nobody { self.old.pool.waiting ≡ 0 → (IsFalse result × (self.new.pool ≡ self.old.pool)) }
+        ensures nobody { self.old.pool.waiting ≡ 0
+            → (IsFalse result × (self.new.pool ≡ self.old.pool)) }
         ensures rest { self.new ≡ record self.old { pool = self.new.pool } }
     {
         if self.pool.waiting() == 0 {
@@ -279,11 +300,13 @@ impl<O: OutboundTransform + Drop, I: InboundTransform + Drop> ServerHeld<O, I> {
         self.pool.leave()
     }
 
-    /// Whether a worker is to be woken for the next job, once this reader or a worker has taken one: not where the reader has
-    /// the turn, since it takes the next one itself while the other looks.
+    /// Returns whether a worker is to be woken for the next job, after this reader or a worker has taken one. A reader that has the turn
+    /// wakes none: it takes the next job itself, while the other reader checks.
     pub(crate) fn calls_for_next(&mut self, reader: Option<u32>) -> bool
-        ensures result { result ≡ calls_for_next self.old.core self.old.relay reader self.old.sleeping self.old.coming }
-        ensures rest { self.new ≡ record self.old { sleeping = asleep result self.old.sleeping; coming = on_their_way result self.old.coming } }
+        ensures result { result
+            ≡ calls_for_next self.old.core self.old.relay reader self.old.sleeping self.old.coming }
+        ensures rest { self.new
+            ≡ record self.old { sleeping = asleep result self.old.sleeping; coming = on_their_way result self.old.coming } }
     {
         match reader {
             Some(reader) if self.relay.has_turn(reader) => false,
@@ -291,23 +314,24 @@ impl<O: OutboundTransform + Drop, I: InboundTransform + Drop> ServerHeld<O, I> {
         }
     }
 
-    /// Returns whether the reader of a piece that was taken whole or not handles its jobs itself.
+    /// Returns whether the reader of a piece handles its jobs itself. `is_whole` says that the piece was taken whole.
     fn keeps_jobs(&self, is_whole: bool) -> bool
         ensures { result ≡ keeps_jobs is_whole self.now.core self.now.relay }
     {
         is_whole && self.core.jobs_waiting() > 0 && self.relay.other_waits
     }
 
-    /// Returns whether such a reader reads on: it has a rest to hand over, or handles no jobs, and not too much waits.
+    /// Returns whether the reader of a piece reads on: it has a rest to hand over, or handles no jobs, and not too much waits.
     fn reads_on(&self, is_whole: bool) -> bool
         ensures { result ≡ reads_on is_whole self.now.core self.now.relay self.now.backlog }
     {
         !is_whole || (!self.keeps_jobs(true) && !self.is_full())
     }
 
-    /// The threads to wake for a piece, whose reader handles its jobs itself or doesn't.
+    /// Returns the threads to wake for a piece. `keeps` says that its reader handles its jobs itself.
     fn woken(&mut self, keeps: bool) -> Woken
-        ensures woken { result ≡ woken_for self.old.core keeps self.old.sleeping self.old.coming self.old.turn self.old.relay }
+        ensures woken { result ≡ woken_for self.old.core keeps self.old.sleeping self.old.coming
+            self.old.turn self.old.relay }
         ensures rest { self.new ≡ record self.old {
           turn = turn_waking self.old.turn (has_bytes self.old.core);
           sleeping = asleep result.worker self.old.sleeping;
@@ -332,12 +356,13 @@ impl<O: OutboundTransform + Drop, I: InboundTransform + Drop> ServerHeld<O, I> {
     /// doesn't matter.
     pub fn take_on(core: &mut ServerCore<O, I>, alloc: Global, piece: &[u8]) -> Result<usize, Error>
         ensures bound { IfOk result (λ n. n ≤ length piece.now) }
-        ensures fed { TakesOrDrains (serving O.OutboundTransform I.InboundTransform) core.old.state core.old.connection piece.now 0 result core.new.state core.new.connection }
+        ensures fed { TakesOrDrains (serving O.OutboundTransform I.InboundTransform) core.old.state
+            core.old.connection piece.now 0 result core.new.state core.new.connection }
     {
         core.feed(alloc, piece, 0)
     }
 
-    /// Tells the core that its input has ended. `ended` of a reader's port notes the end, and the core is told after the last job has
+    /// Reports the end of the input to the core. `ended` of a reader's port only notes the end; the core learns it after the last job has
     /// ended and all answers have left.
     pub fn ended_on(core: &mut ServerCore<O, I>)
         ensures ends { Ends core.old.connection core.new.connection }
@@ -346,24 +371,27 @@ impl<O: OutboundTransform + Drop, I: InboundTransform + Drop> ServerHeld<O, I> {
         core.end_of_input();
     }
 
-    /// Fails the connection by an error of this kind, as `broke` of a port does.
+    /// Fails the connection with an error of this kind, as `broke` of a port does.
     pub fn broke_on(core: &mut ServerCore<O, I>, kind: ErrorKind)
-        ensures { core.new ≡ record core.old { connection = failing core.old.connection (AFailure.Told (AnError.Nix kind)) } }
+        ensures { core.new
+            ≡ record core.old { connection = failing core.old.connection (AFailure.Broke kind) } }
     {
-        core.fail(Error::Nix(kind));
+        core.broke(kind);
     }
 
     /// Lends bytes of the first unsent frame, as `lend` of a writer's port does. Returns how many.
     pub fn lend_on(core: &mut ServerCore<O, I>, buffer: &mut [u8]) -> usize
         ensures lends { Lends core.old.connection buffer.old result buffer.new }
-        ensures lent { core.new ≡ record core.old { connection = lending core.old.connection result } }
+        ensures lent { core.new
+            ≡ record core.old { connection = lending core.old.connection result } }
     {
         core.lend(buffer)
     }
 
     /// Reports `count` bytes of the last loan as written, at most all of them, as `wrote` of a writer's port does.
     pub fn wrote_on(core: &mut ServerCore<O, I>, count: usize)
-        ensures { core.new ≡ record core.old { connection = reporting core.old.connection (min count core.old.connection.outbox.queue.lent) } }
+        ensures { core.new
+            ≡ record core.old { connection = reporting core.old.connection (min count core.old.connection.outbox.queue.lent) } }
     {
         let lent = core.lent();
         core.wrote(count.min(lent));
@@ -375,19 +403,27 @@ impl<O: OutboundTransform + Drop, I: InboundTransform + Drop> Held for ServerHel
 
     // After the end of the input nothing is taken.
     fn take(&mut self, alloc: Global, piece: &[u8]) -> Option<Taken<Woken>>
+        // The piece was fed to the core, and this number of its bytes was taken, at most its length.
         ensures bound { IfSome result (λ taken. taken.count ≤ length piece.now) }
-        ensures fed { IsFed O.OutboundTransform I.InboundTransform self.old.core piece.now self.old.has_ended (option_map (λ taken. taken.count) result) self.new.core }
-        ensures reads_on { IfSome result (λ taken. taken.reads_on ≡ reads_on (nat_eq taken.count (length piece.now)) self.new.core self.old.relay self.new.backlog) }
-        ensures woken { IfSome result (λ taken. taken.woken
-            ≡ woken_for self.new.core (keeps_jobs (nat_eq taken.count (length piece.now)) self.new.core self.old.relay) self.old.sleeping self.old.coming self.old.turn self.old.relay) }
-        ensures rest { MatchOption result (self.new ≡ record self.old { core = self.new.core }) (λ taken. self.new ≡ record self.old {
-          core = self.new.core;
-          turn = turn_waking self.old.turn (has_bytes self.new.core);
-          sleeping = asleep taken.woken.worker self.old.sleeping;
-          coming = on_their_way taken.woken.worker self.old.coming;
-          relay = relay_behind (keeps_jobs (nat_eq taken.count (length piece.now)) self.new.core self.old.relay) self.old.relay;
-          backlog = with_piece self.old.backlog taken.count;
-        }) }
+        ensures fed { IsFed O.OutboundTransform I.InboundTransform self.old.core piece.now
+            self.old.has_ended (option_map (λ taken. taken.count) result) self.new.core }
+        // The result states if the reader reads on, and which threads are woken.
+        ensures reads_on { IfSome result (λ taken. taken.reads_on ≡ reads_on (nat_eq taken.count
+            (length piece.now)) self.new.core self.old.relay self.new.backlog) }
+        ensures woken { IfSome result (λ taken. taken.woken ≡ woken_for self.new.core
+            (keeps_jobs (nat_eq taken.count (length piece.now)) self.new.core self.old.relay)
+            self.old.sleeping self.old.coming self.old.turn self.old.relay) }
+        // At `None` only the core changed. Otherwise the turn, the counts of workers, the relay and the backlog did, too.
+        ensures rest { MatchOption result (self.new ≡ record self.old { core = self.new.core })
+            (λ taken. self.new ≡ record self.old {
+              core = self.new.core;
+              turn = turn_waking self.old.turn (has_bytes self.new.core);
+              sleeping = asleep taken.woken.worker self.old.sleeping;
+              coming = on_their_way taken.woken.worker self.old.coming;
+              relay = relay_behind (keeps_jobs (nat_eq taken.count (length piece.now))
+                  self.new.core self.old.relay) self.old.relay;
+              backlog = with_piece self.old.backlog taken.count;
+            }) }
     {
         let has_ended = self.has_ended;
         match ServerHeld::take_on(&mut self.core, alloc, piece) {
@@ -419,7 +455,8 @@ impl<O: OutboundTransform + Drop, I: InboundTransform + Drop> Held for ServerHel
     }
 
     fn lend(&mut self, buffer: &mut [u8]) -> Loan
-        ensures lent { LendsFrame self.old.core buffer.old result.count result.ends_frame buffer.new self.new.core }
+        ensures lent { LendsFrame self.old.core buffer.old result.count result.ends_frame
+            buffer.new self.new.core }
         ensures rest { self.new ≡ record self.old { core = self.new.core } }
     {
         let open = self.core.lendable();
@@ -433,7 +470,7 @@ impl<O: OutboundTransform + Drop, I: InboundTransform + Drop> Held for ServerHel
     fn broke(&mut self, kind: ErrorKind)
         ensures { self.new ≡ record self.old {
           core = record self.old.core {
-            connection = failing self.old.core.connection (AFailure.Told (AnError.Nix kind));
+            connection = failing self.old.core.connection (AFailure.Broke kind);
           };
         } }
     {
@@ -441,11 +478,17 @@ impl<O: OutboundTransform + Drop, I: InboundTransform + Drop> Held for ServerHel
     }
 
     fn next(&mut self, has_turn: bool) -> Next
+        // Only the end of the input may be reported to the core. It is, if the core is quiet and no other thread has the turn.
         ensures told { MayTellEnd self.old.has_ended self.old.core self.new.core }
-        ensures tells { self.old.has_ended ≡ true → (self.old.turn.is_taken ≡ true → has_turn ≡ true) → IsQuiet self.old.core
+        ensures tells { self.old.has_ended ≡ true
+            → (self.old.turn.is_taken ≡ true → has_turn ≡ true) → IsQuiet self.old.core
             → Ends self.old.core.connection self.new.core.connection }
-        ensures result { result ≡ next_of self.old.turn.is_taken has_turn (is_alive self.new.core) (has_bytes self.new.core) }
-        ensures turn { self.new.turn ≡ turn_after self.old.turn has_turn (is_alive self.new.core) (has_bytes self.new.core) }
+        // The next action and the turn depend on the turn before, on a failure and on bytes that wait.
+        ensures result { result ≡ next_of self.old.turn.is_taken has_turn (is_alive self.new.core)
+            (has_bytes self.new.core) }
+        ensures turn { self.new.turn
+            ≡ turn_after self.old.turn has_turn (is_alive self.new.core) (has_bytes self.new.core) }
+        // Nothing else changed.
         ensures rest { self.new ≡ record self.old { core = self.new.core; turn = self.new.turn } }
     {
         self.tell_end(has_turn);
@@ -455,8 +498,10 @@ impl<O: OutboundTransform + Drop, I: InboundTransform + Drop> Held for ServerHel
     }
 
     fn give_back(&mut self) -> bool
-        ensures result { result ≡ wakes_behind self.old.turn (has_bytes self.old.core || self.old.has_ended) }
-        ensures turn { self.new.turn ≡ given_back self.old.turn (has_bytes self.old.core || self.old.has_ended) }
+        ensures result { result
+            ≡ wakes_behind self.old.turn (has_bytes self.old.core || self.old.has_ended) }
+        ensures turn { self.new.turn
+            ≡ given_back self.old.turn (has_bytes self.old.core || self.old.has_ended) }
         ensures rest { self.new ≡ record self.old { turn = self.new.turn; handler_writes = false } }
     {
         self.handler_writes = false;
@@ -466,13 +511,14 @@ impl<O: OutboundTransform + Drop, I: InboundTransform + Drop> Held for ServerHel
 
     fn wakes_writer(&mut self) -> bool
         ensures result { result ≡ wakes_writer self.old.turn (has_bytes self.old.core) }
-        ensures rest { self.new ≡ record self.old { turn = turn_waking self.old.turn (has_bytes self.old.core) } }
+        ensures rest { self.new
+            ≡ record self.old { turn = turn_waking self.old.turn (has_bytes self.old.core) } }
     {
         self.core.lendable() > 0 && self.turn.wakes()
     }
 }
 
-/// What the threads of a server's connection share. No thread reads or writes a socket while it has the lock.
+/// The state that the threads of a server's connection share. No thread reads or writes a socket while it holds the lock.
 #[derive(Drop)]
 pub struct ServerShared<O, I> {
     held: Mutex<ServerHeld<O, I>>,
@@ -484,7 +530,7 @@ pub struct ServerShared<O, I> {
 }
 
 impl<O: OutboundTransform + Drop, I: InboundTransform + Drop> ServerShared<O, I> {
-    /// Shares this core, this pool and this backlog.
+    /// Makes the shared state of this core, this pool and this backlog.
     pub fn new(core: ServerCore<O, I>, pool: PoolCore, backlog: Backlog) -> Self {
         ServerShared {
             held: Mutex::new(ServerHeld::new(core, pool, backlog)),
@@ -562,12 +608,12 @@ impl<O: OutboundTransform + Drop, I: InboundTransform + Drop> ServerShared<O, I>
         unreachable!()
     }
 
-    /// Where workers wait for a job.
+    /// Returns the condition on which workers wait for a job.
     pub(crate) fn to_work(&self) -> &Condvar {
         &self.to_work
     }
 
-    /// Where the reader that has the turn waits for room.
+    /// Returns the condition on which the reader that has the turn waits for room.
     pub(crate) fn to_read_on(&self) -> &Condvar {
         &self.to_read_on
     }
