@@ -1,4 +1,4 @@
--- For what a connection waits that is begun.
+-- The sources at which a connection waits that was begun, and its result.
 -- Source: this project's.
 use Rattle.std.specs.Prelude.{◌≡◌, ℕ, List, Result, Err, IfErr}
 use Rattle.std.specs.declared.net.SocketAddr.{SocketAddr}
@@ -11,25 +11,26 @@ use Rattle.ttrpc_polled.specs.declared.socket.Socket.{Socket}
 use Rattle.ttrpc_polled.specs.declared.socket.Connecting.TheVariants.{Connects, Refused, Done}
 use Rattle.ttrpc_polled.specs.Sockets.{IsNoTcp, IsTcp}
 
--- it waits for the system's answer
+-- a connection that is under way waits for the system's answer
 abbrev pub ConnectingNeeds : Connecting → ℕ → Type 0
 ConnectingNeeds (Connects connects) s = ConnectNeeds (connect_state connects) s
 ConnectingNeeds (Refused e) s = ⊥
 ConnectingNeeds Done s = ⊥
 
--- it gives a socket, or what the system refuses; an address that was refused gives its refusal; and once it gave that, it is closed
+-- the result is a socket, or the system's refusal; an address that was refused has its refusal as the result; after its result a connection
+-- is closed
 abbrev pub ConnectingGives : Connecting → Result Socket Error → Type 0
 ConnectingGives (Connects connects) r = IfErr r IsFault
 ConnectingGives (Refused e) r = r ≡ Err e
 ConnectingGives Done r = r ≡ Err LocalClosed
 
--- it is begun, and neither refused nor over
+-- the connection was begun, and is neither refused nor over
 abbrev pub IsUnderWay : Connecting → Type 0
 IsUnderWay (Connects connects) = Unit {0}
 IsUnderWay (Refused e) = ⊥
 IsUnderWay Done = ⊥
 
--- it is begun where the address names an IP address and port, and else it is refused as such an address is
+-- the connection is begun if the address names an IP address and port; otherwise it is refused
 abbrev pub RefusesAddress : List ℕ → Connecting → Type 0
 RefusesAddress addr (Connects connects) = (socket : SocketAddr) × IsTcp addr socket
 RefusesAddress addr (Refused e) = IsNoTcp addr e

@@ -1,4 +1,4 @@
--- Which addresses a polled socket connects to: those of TCP.
+-- The addresses to which a polled socket connects: those of TCP.
 -- Source: this project's.
 use Rattle.std.specs.Prelude.{◌≡◌, ◌⊎◌, ℕ, List, codes}
 use Rattle.std.specs.declared.net.SocketAddr.{SocketAddr}
@@ -14,14 +14,14 @@ use Rattle.ttrpc_transport.specs.Sockets.{IsFault}
 abbrev pub IsTcp : List ℕ → SocketAddr → Type 0
 IsTcp addr socket = IsPlace addr (Tcp socket)
 
--- the text for the path of a Unix socket, or no memory for it
+-- the text for the path of a Unix socket, or `NoMemory` if memory for the text was refused
 abbrev pub IsUnsupported : Error → Type 0
 IsUnsupported e = (e ≡ Others (codes "async unix sockets are not supported")) ⊎ (e ≡ NoMemory)
 
--- the address names no place, or that of a Unix socket
+-- the address names no place, or the path of a Unix socket
 abbrev pub IsNoTcp : List ℕ → Error → Type 0
 IsNoTcp addr e = IsNoPlace addr e ⊎ (((name : List ℕ) × IsAddress addr UnixDomain name) × IsUnsupported e)
 
--- what stands over a socket isn't made, since memory was refused, or the system refused
+-- nothing is made over a socket, since memory was refused, or the system refused
 abbrev pub IsNotMade : Error → Type 0
 IsNotMade e = (e ≡ NoMemory) ⊎ IsFault e

@@ -1,4 +1,4 @@
-//! What the future of a connection drives, and what stands under its lock.
+//! The state under the lock of a polled connection, which the connection's future drives.
 ghost use Rattle.std.specs.Prelude.{◌≡◌, ◌≤◌, length, IfSome};
 
 use futures::task::{Source, Waker};
@@ -6,25 +6,25 @@ use std::alloc::Global;
 use std::io::ErrorKind;
 use std::sync::Mutex;
 
-/// What stands under the lock of a polled connection: a core, and the wakers of those who wait for what it tells. Each call
-/// makes one call of the core, as its members say, and wakes whom that concerns.
+/// The state under the lock of a polled connection: a core, and the wakers of the tasks that wait for it. Each call makes one call of the
+/// core, as the members of this trait say, and wakes the tasks that the call concerns.
 pub trait Held: Drop {
     ghost use Rattle.std.specs.Prelude.{ℕ, List, Option, Bool};
     ghost use Rattle.std.specs.declared.io.ErrorKind.{ErrorKind};
 
-    // So many bytes of a piece were taken at a moment, or it was in vain, since the connection has failed or takes no more.
+    // This many bytes of a piece were taken at a moment. Or none could be, since the connection has failed or takes no more.
     ghost takes: { Self → List ℕ → ℕ → Option ℕ → Self → Type 0 };
 
     // The input ended.
     ghost ends: { Self → Self → Type 0 };
 
-    // A reader or a writer failed by an error of this kind.
+    // A reader or a writer failed with an error of this kind.
     ghost breaks: { Self → ErrorKind → Self → Type 0 };
 
-    // So many bytes were lent into a buffer that held others, and reported as written.
+    // This many bytes were lent into a buffer that held other bytes, and reported as written.
     ghost lends: { Self → List ℕ → ℕ → List ℕ → Self → Type 0 };
 
-    // So many bytes would be lent into a buffer that has room.
+    // The number of bytes that would be lent into a buffer that has room.
     ghost lendable: { Self → ℕ };
 
     // A moment came.
@@ -33,68 +33,68 @@ pub trait Held: Drop {
     // This is the least moment at which a tick would change something, or there is none.
     ghost expires: { Self → Option ℕ → Type 0 };
 
-    // Whether the connection has failed.
+    // True if the connection has failed.
     ghost failed: { Self → Bool };
 
-    // So many wait for frames of streams to be sent.
+    // The number of tasks that wait for frames of streams to be sent.
     ghost senders: { Self → ℕ };
 
-    // Whether more input is wanted.
+    // True if more input is wanted.
     ghost wants: { Self → Bool };
 
-    /// Takes a front of a piece at this moment, in nanoseconds, and says of how many bytes: of none while there is no room for what the
-    /// core would answer. `None`: the connection has failed, or takes no more.
+    /// Takes the first bytes of a piece at this moment, in nanoseconds, and returns how many. Takes none while there is no room for the
+    /// core's answers. Returns `None` if the connection has failed, or takes no more.
     fn take(&mut self, alloc: Global, piece: &[u8], now: u64) -> Option<usize>
         ensures bound { IfSome result (λ n. n ≤ length piece.now) }
         ensures takes { takes self.old piece.now now result self.new };
 
-    /// The reader is at its end.
+    /// Reports that the reader is at its end.
     fn ended(&mut self)
         ensures { ends self.old self.new };
 
-    /// The reader or the writer failed, by an error of this kind.
+    /// Reports that the reader or the writer failed, with an error of this kind.
     fn broke(&mut self, kind: ErrorKind)
         ensures { breaks self.old kind self.new };
 
-    /// How many bytes a loan has that finds room.
+    /// Returns how many bytes a loan has that finds room.
     fn lendable(&self) -> usize
         ensures { result ≡ lendable self.now };
 
-    /// Lends bytes of the first frame that waits, and reports them as written: they are the caller's from now on. Wakes those who
-    /// wait for room.
+    /// Lends bytes of the first frame that waits, and reports them as written: they are the caller's from now on. Wakes the tasks that wait
+    /// for room.
     fn lend(&mut self, buffer: &mut [u8]) -> usize
         ensures bound { result ≤ length buffer.new }
         ensures lends { lends self.old buffer.old result buffer.new self.new };
 
-    /// A moment has come, in nanoseconds.
+    /// Reports that a moment has come, in nanoseconds.
     fn tick(&mut self, now: u64)
         ensures { ticks self.old now self.new };
 
-    /// The least moment at which a tick would change something.
+    /// Returns the least moment at which a tick would change something.
     fn next_deadline(&self) -> Option<u64>
         ensures { expires self.now result };
 
-    /// Whether the connection has failed.
+    /// Returns whether the connection has failed.
     fn has_failed(&self) -> bool
         ensures { result ≡ failed self.now };
 
-    /// How many wait for frames of streams to be sent. They may have more to send once these are lent.
+    /// Returns how many tasks wait for frames of streams to be sent. These tasks may have more to send after the frames are lent.
     fn senders(&self) -> usize
         ensures { result ≡ senders self.now };
 
-    /// Whether more input is wanted, before those who work at what came have gone on.
+    /// Returns whether more input is wanted, before the tasks that work on earlier input have gone on.
     fn wants_input(&self) -> bool
         ensures { result ≡ wants self.now };
 
-    /// The waker of the connection's future, which is woken by being dropped.
+    /// Returns the waker of the connection's future. Dropping this waker wakes the future.
     fn driver(&mut self) -> &mut Option<Waker>;
 }
 
-/// What a connection's future shares with those who use the connection.
+/// The state that a connection's future shares with the users of the connection.
 pub trait Connected: Drop {
     ghost use Rattle.std.specs.Prelude.{ℕ};
 
-    /// What stands under its lock.
+    /// The state under the lock.
     type Held: Held;
 
     // The source at which the connection's future waits for something to write.
@@ -102,7 +102,7 @@ pub trait Connected: Drop {
 
     fn held(&self) -> &Mutex<Self::Held>;
 
-    /// Where the connection's future waits for something to write.
+    /// Returns the source at which the connection's future waits for something to write.
     fn asked(&self) -> &Source
         ensures { result.now.id ≡ asked self.now };
 }

@@ -1,4 +1,4 @@
-//! Bytes that a reader gave, on their way to a core.
+//! Bytes from a reader, on their way to a core.
 ghost use Rattle.std.specs.Prelude.{◌≡◌, [], IfOk};
 ghost use Rattle.futures.specs.Task.{Covers, Keeps};
 ghost use Rattle.futures.specs.Poll.{OnPending};
@@ -14,10 +14,10 @@ use tokio::io::AsyncRead;
 /// The room for a piece while a connection waits for one.
 pub const INLET_AT_REST: usize = 1024;
 
-/// The room for a piece behind one that filled all there was, where memory is found.
+/// The room for a piece after one that filled all the room, if memory is found.
 pub const INLET_AT_WORK: usize = 65536;
 
-/// A reader, and what a core hasn't taken yet of the piece that it gave.
+/// A reader, and the part of its last piece that a core hasn't taken yet.
 #[derive(Drop)]
 pub struct Inlet<S> {
     pub reader: S,
@@ -26,7 +26,7 @@ pub struct Inlet<S> {
 }
 
 impl<S: AsyncRead> Inlet<S> {
-    /// The inlet of this reader, with no piece yet. Memory for the room at rest may be refused.
+    /// Makes the inlet of this reader, without a piece. Memory for the room at rest may be refused.
     pub fn new(alloc: Global, reader: S) -> Result<Inlet<S>, AllocError>
         ensures { IfOk result (λ inlet. (inlet.reader ≡ reader) × (inlet.piece ≡ [])) }
     {
@@ -37,10 +37,11 @@ impl<S: AsyncRead> Inlet<S> {
         })
     }
 
-    /// Asks for a piece: the rest of the last one, or a new one. Ready: whether there is one, which at the end of the input
-    /// there isn't.
+    /// Asks for a piece: the rest of the last one, or a new one. Ready with whether there is a piece; at the end of the input there is
+    /// none.
     pub fn poll_piece(&mut self, cx: &mut Context<'_>) -> Poll<io::Result<bool>>
-        ensures asks { AsksPiece S.reads S.is_at_end self.old.reader self.old.piece result self.new.reader self.new.piece }
+        ensures asks { AsksPiece S.reads S.is_at_end self.old.reader self.old.piece result
+            self.new.reader self.new.piece }
         ensures failed { IfReadyErr result (S.fails self.new.reader) }
         ensures registered { OnPending result (Covers cx.new (S.needs self.new.reader)) }
         ensures kept { Keeps cx.old cx.new }

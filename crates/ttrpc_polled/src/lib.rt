@@ -1,6 +1,6 @@
-//! The parts of a polled connection that know neither core: where bytes come in and go out, the alarm for deadlines, and the
-//! link, which moves between them and what stands under the connection's lock. In `streams` the streams of such a
-//! connection, over what either core does for a stream.
+//! The parts of a polled connection that know neither core: the two ends for bytes in and out, the alarm for deadlines, and the link. The
+//! link moves bytes between the ends and the state under the connection's lock. The module `streams` has the streams of such a connection,
+//! over the calls that either core has for a stream.
 #![tactic(auto)]
 
 mod alarm;

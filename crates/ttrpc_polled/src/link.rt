@@ -26,23 +26,23 @@ use tokio::runtime::Handle;
 use ttrpc_proto::Result;
 use ttrpc_transport::moment;
 
-/// What one look at the things that a connection waits for came to.
+/// The result of one look at everything that a connection waits for.
 #[derive(Clone, Copy, Debug, PartialEq, Eq)]
 pub enum Step {
     /// Something was done: look again.
     Moved,
-    /// Something was lent that isn't written yet, and those who waited for that may send more for the same write.
+    /// Something was lent that isn't written yet. The tasks that waited for this may send more for the same write.
     Gathered,
-    /// There is nothing to do, and each source of something is heard.
+    /// There is nothing to do, and the task waits at each source of something.
     Waits,
     /// The connection is over.
     Over,
 }
 
-/// How long a connection that has failed goes on writing what was lent before, in nanoseconds, to a peer that takes none of it.
+/// The time for which a failed connection goes on writing bytes that were lent before, in nanoseconds, if its peer takes none of them.
 const LAST_WRITES: u64 = 5_000_000_000;
 
-/// The two ends of a connection, what it shares, and its alarm.
+/// The two ends of a connection, its shared state, and its alarm.
 #[derive(Drop)]
 pub struct Link<R: Clock + AllocGlobal + Drop, S, W, C> {
     rt: R,
@@ -57,10 +57,11 @@ pub struct Link<R: Clock + AllocGlobal + Drop, S, W, C> {
 }
 
 impl<R: Clock + AllocGlobal + Drop, S: AsyncRead, W: AsyncWrite, C: Connected> Link<R, S, W, C> {
-    /// The connection over this reader and this writer. Want of memory for their rooms at rest is `NoMemory`.
+    /// Makes the link over this reader and this writer. Want of memory for their rooms at rest is `NoMemory`.
     pub fn new(rt: R, handle: &Handle, shared: Arc<C, Global>, reader: S, writer: W) -> Result<Self>
-        ensures ok { IfOk result (λ link. (link.shared ≡ shared) × (link.inlet.reader ≡ reader) × (link.inlet.piece ≡ []) × (link.is_reading ≡ true)
-            × (link.outlet.writer ≡ writer) × (link.outlet.kept ≡ []) × (link.alarm.set_for ≡ None)) }
+        ensures ok { IfOk result (λ link. (link.shared ≡ shared) × (link.inlet.reader ≡ reader)
+            × (link.inlet.piece ≡ []) × (link.is_reading ≡ true) × (link.outlet.writer ≡ writer)
+            × (link.outlet.kept ≡ []) × (link.alarm.set_for ≡ None)) }
         ensures err { IfErr result IsNotMade }
     {
         let alloc = rt.alloc();
@@ -77,22 +78,22 @@ impl<R: Clock + AllocGlobal + Drop, S: AsyncRead, W: AsyncWrite, C: Connected> L
         })
     }
 
-    /// What it shares.
+    /// Returns the shared state.
     pub fn shared(&self) -> &C
         ensures { result.now ≡ arc_value self.now.shared }
     {
         &self.shared
     }
 
-    /// Whether its input goes on: it has neither ended nor failed.
+    /// Returns whether the input goes on: it has neither ended nor failed.
     pub fn is_reading(&self) -> bool
         ensures { result ≡ self.now.is_reading }
     {
         self.is_reading
     }
 
-    /// Begins a poll: it reads the clock, and tells the core of the moment where something has expired by then, before the poll does
-    /// anything else.
+    /// Begins a poll: reads the clock and, before the poll does anything else, reports the moment to the core if something has expired by
+    /// then.
     pub fn look(&self) -> Share
         ensures { (now : ℕ) × (result ≡ fresh now) }
     {
@@ -103,7 +104,7 @@ impl<R: Clock + AllocGlobal + Drop, S: AsyncRead, W: AsyncWrite, C: Connected> L
         Share::new(now)
     }
 
-    /// Whether it keeps nothing that is to be written.
+    /// Returns whether the link keeps no bytes that are to be written.
     pub fn keeps_nothing(&self) -> bool
         ensures yes { result ≡ true → self.now.outlet.kept ≡ [] }
         ensures no { result ≡ false → self.now.outlet.kept ≢ [] }
@@ -111,12 +112,14 @@ impl<R: Clock + AllocGlobal + Drop, S: AsyncRead, W: AsyncWrite, C: Connected> L
         self.outlet.kept.is_empty()
     }
 
-    /// Looks once at everything that it waits for, and does what there is to do: it writes, it reads, and where there was
-    /// nothing of either it looks at its alarm. It is over once the connection has failed and what was lent is written, or 5 seconds
-    /// behind the failure where the writer takes none of that.
+    /// Looks once at everything that the link waits for, and does what there is to do. The link writes and reads, and if there was nothing
+    /// of either it looks at its alarm. The link is over once the connection has failed and all lent bytes are written, or 5 seconds after
+    /// the failure if the writer takes none of them.
     pub fn turn(&mut self, share: &mut Share, cx: &mut Context<'_>) -> Step
-        ensures waits { result ≡ Step.Waits → Covers cx.new (LinkNeeds S.AsyncRead.needs W.AsyncWrite.needs C.asked self.new) }
-        ensures over { result ≡ Step.Over → IsOver W.AsyncWrite.fails W.AsyncWrite.is_full self.new }
+        ensures waits { result ≡ Step.Waits
+            → Covers cx.new (LinkNeeds S.AsyncRead.needs W.AsyncWrite.needs C.asked self.new) }
+        ensures over { result ≡ Step.Over
+            → IsOver W.AsyncWrite.fails W.AsyncWrite.is_full self.new }
         ensures kept { Keeps cx.old cx.new }
     {
         match self.poll_out(share.now(), cx) {
@@ -136,7 +139,7 @@ impl<R: Clock + AllocGlobal + Drop, S: AsyncRead, W: AsyncWrite, C: Connected> L
         }
     }
 
-    /// Writes what is queued, and reads where this poll may still hand on a piece. True: the connection is over.
+    /// Writes the queued bytes, and reads if this poll may still hand on a piece. Returns true if the connection is over.
     pub fn flush(&mut self, share: &mut Share, cx: &mut Context<'_>) -> bool
         ensures over { result ≡ true → IsOver W.AsyncWrite.fails W.AsyncWrite.is_full self.new }
         ensures kept { Keeps cx.old cx.new }
@@ -151,12 +154,15 @@ impl<R: Clock + AllocGlobal + Drop, S: AsyncRead, W: AsyncWrite, C: Connected> L
         false
     }
 
-    /// Gathers what is queued, where nothing is kept, and writes what is kept. Also while the writer takes nothing it hears of new
+    /// Gathers queued bytes if none are kept, and writes the kept bytes. While the writer takes nothing, the link still learns of new
     /// deadlines.
     fn poll_out(&mut self, now: u64, cx: &mut Context<'_>) -> Step
-        ensures waits { result ≡ Step.Waits → Covers cx.new (OutNeeds W.AsyncWrite.needs C.asked self.new) }
-        ensures over { result ≡ Step.Over → IsOver W.AsyncWrite.fails W.AsyncWrite.is_full self.new }
-        ensures inlet { (self.new.inlet ≡ self.old.inlet) × (self.new.is_reading ≡ self.old.is_reading) }
+        ensures waits { result ≡ Step.Waits
+            → Covers cx.new (OutNeeds W.AsyncWrite.needs C.asked self.new) }
+        ensures over { result ≡ Step.Over
+            → IsOver W.AsyncWrite.fails W.AsyncWrite.is_full self.new }
+        ensures inlet { (self.new.inlet ≡ self.old.inlet)
+            × (self.new.is_reading ≡ self.old.is_reading) }
         ensures kept { Keeps cx.old cx.new }
     {
         if self.outlet.kept.is_empty() {
@@ -178,10 +184,11 @@ impl<R: Clock + AllocGlobal + Drop, S: AsyncRead, W: AsyncWrite, C: Connected> L
         }
     }
 
-    /// Gathers, behind what is kept, what those who wait for it to be sent have put in since. True: there was some.
+    /// Appends frames that waiting senders have queued since, so that they share the write. Returns whether there were any.
     fn gathers_more(&mut self) -> bool
         ensures kept { self.old.outlet.kept ≢ [] → self.new.outlet.kept ≢ [] }
-        ensures rest { (self.new.inlet ≡ self.old.inlet) × (self.new.is_reading ≡ self.old.is_reading) }
+        ensures rest { (self.new.inlet ≡ self.old.inlet)
+            × (self.new.is_reading ≡ self.old.is_reading) }
     {
         if !self.outlet.has_room() {
             return false;
@@ -197,7 +204,7 @@ impl<R: Clock + AllocGlobal + Drop, S: AsyncRead, W: AsyncWrite, C: Connected> L
         before < self.outlet.kept.bytes().len()
     }
 
-    /// The writer failed.
+    /// Reports that the writer failed.
     fn broke(&self, kind: ErrorKind) -> Step
         ensures { result ≡ Step.Over }
     {
@@ -207,12 +214,18 @@ impl<R: Clock + AllocGlobal + Drop, S: AsyncRead, W: AsyncWrite, C: Connected> L
         Step::Over
     }
 
-    /// Gathers what is queued, or waits for some. It moved also where the lock couldn't be had.
+    /// Gathers queued bytes, or waits for some. If the lock isn't free, the result is `Moved`, too.
     fn poll_queued(&mut self, cx: &mut Context<'_>) -> Step
+        // No gathered bytes are kept.
         requires { self.old.outlet.kept ≡ [] }
-        ensures waits { result ≡ Step.Waits → (self.new.outlet.kept ≡ []) × IsArmed cx.new × Hears cx.new (C.asked (arc_value self.new.shared)) }
+        // After `Waits` or `Over` no bytes are kept. After `Waits` the poll has registered for bytes to write.
+        ensures waits { result ≡ Step.Waits
+            → (self.new.outlet.kept ≡ []) × IsArmed cx.new
+            × Hears cx.new (C.asked (arc_value self.new.shared)) }
         ensures over { result ≡ Step.Over → self.new.outlet.kept ≡ [] }
-        ensures inlet { (self.new.inlet ≡ self.old.inlet) × (self.new.is_reading ≡ self.old.is_reading) }
+        // The reading side is as it was. Earlier registrations are kept.
+        ensures inlet { (self.new.inlet ≡ self.old.inlet)
+            × (self.new.is_reading ≡ self.old.is_reading) }
         ensures kept { Keeps cx.old cx.new }
     {
         let Some(mut held) = lock(self.shared.held()) else {
@@ -241,11 +254,14 @@ impl<R: Clock + AllocGlobal + Drop, S: AsyncRead, W: AsyncWrite, C: Connected> L
         Step::Waits
     }
 
-    /// Waits for new calls and deadlines, while the writer takes nothing. Once the connection has failed that has a limit.
+    /// Waits for new calls and deadlines, while the writer takes nothing. After the connection has failed this wait has a limit.
     fn poll_asked(&mut self, now: u64, cx: &mut Context<'_>) -> Step
-        ensures waits { result ≡ Step.Waits → IsArmed cx.new × Hears cx.new (C.asked (arc_value self.new.shared)) }
+        ensures waits { result ≡ Step.Waits
+            → IsArmed cx.new × Hears cx.new (C.asked (arc_value self.new.shared)) }
         ensures over { result ≡ Step.Over → self.new.is_late ≡ true }
-        ensures rest { (self.new.inlet ≡ self.old.inlet) × (self.new.is_reading ≡ self.old.is_reading) × (self.new.outlet ≡ self.old.outlet) × (self.new.shared ≡ self.old.shared) }
+        ensures rest { (self.new.inlet ≡ self.old.inlet)
+            × (self.new.is_reading ≡ self.old.is_reading) × (self.new.outlet ≡ self.old.outlet)
+            × (self.new.shared ≡ self.old.shared) }
         ensures kept { Keeps cx.old cx.new }
     {
         let Some(mut held) = lock(self.shared.held()) else {
@@ -271,12 +287,14 @@ impl<R: Clock + AllocGlobal + Drop, S: AsyncRead, W: AsyncWrite, C: Connected> L
         Step::Waits
     }
 
-    /// Reads a piece, and hands it to the core. While the core wants no more input, nothing is read and the task is polled again.
-    /// Where a piece was handed on before in this poll, the next one is kept for the next poll, and this one is over.
+    /// Reads a piece, and hands it to the core. While the core wants no more input, nothing is read and the task is polled again. If a
+    /// piece was handed on before in this poll, the next one is kept for the next poll, and this poll is over.
     fn poll_in(&mut self, share: &mut Share, cx: &mut Context<'_>) -> Step
-        ensures waits { result ≡ Step.Waits → self.new.is_reading ≡ true → self.new.inlet.piece ≡ [] → Covers cx.new (S.AsyncRead.needs self.new.inlet.reader) }
+        ensures waits { result ≡ Step.Waits → self.new.is_reading ≡ true → self.new.inlet.piece ≡ []
+            → Covers cx.new (S.AsyncRead.needs self.new.inlet.reader) }
         ensures goes_on { result ≢ Step.Over }
-        ensures outlet { (self.new.outlet ≡ self.old.outlet) × (self.new.shared ≡ self.old.shared) × (self.new.alarm ≡ self.old.alarm) }
+        ensures outlet { (self.new.outlet ≡ self.old.outlet) × (self.new.shared ≡ self.old.shared)
+            × (self.new.alarm ≡ self.old.alarm) }
         ensures kept { Keeps cx.old cx.new }
     {
         if !self.is_reading {
@@ -308,12 +326,13 @@ impl<R: Clock + AllocGlobal + Drop, S: AsyncRead, W: AsyncWrite, C: Connected> L
         !self.is_full
     }
 
-    /// Hands on what the reader gave, at the moment of this poll. If the core lacks room for what it would answer, it takes nothing of
-    /// a piece, and the connection waits until more of what is queued has left, which is when the rest is handed on again.
+    /// Hands on the reader's result, at the moment of this poll. If the core lacks room for its answers, it takes nothing of a piece. The
+    /// connection then waits until more of the queued bytes have left, and hands the rest on again.
     fn hand_in(&mut self, given: io::Result<bool>, share: &mut Share, cx: &mut Context<'_>) -> Step
         ensures waits { result ≡ Step.Waits → self.new.inlet.piece ≢ [] }
         ensures goes_on { result ≢ Step.Over }
-        ensures outlet { (self.new.outlet ≡ self.old.outlet) × (self.new.shared ≡ self.old.shared) × (self.new.alarm ≡ self.old.alarm) }
+        ensures outlet { (self.new.outlet ≡ self.old.outlet) × (self.new.shared ≡ self.old.shared)
+            × (self.new.alarm ≡ self.old.alarm) }
         ensures kept { Keeps cx.old cx.new }
     {
         let Some(mut held) = lock(self.shared.held()) else {
@@ -331,11 +350,14 @@ impl<R: Clock + AllocGlobal + Drop, S: AsyncRead, W: AsyncWrite, C: Connected> L
         Step::Moved
     }
 
-    /// Looks at the alarm, where it is set.
+    /// Looks at the alarm, if it is set.
     fn poll_alarm(&mut self, cx: &mut Context<'_>) -> Step
-        ensures waits { result ≡ Step.Waits → IsSome self.new.alarm.set_for → Covers cx.new (λ s. s ≡ sleep_source self.new.alarm.sleep) }
+        ensures waits { result ≡ Step.Waits → IsSome self.new.alarm.set_for
+            → Covers cx.new (λ s. s ≡ sleep_source self.new.alarm.sleep) }
         ensures goes_on { result ≢ Step.Over }
-        ensures rest { (self.new.inlet ≡ self.old.inlet) × (self.new.is_reading ≡ self.old.is_reading) × (self.new.outlet ≡ self.old.outlet) × (self.new.shared ≡ self.old.shared) }
+        ensures rest { (self.new.inlet ≡ self.old.inlet)
+            × (self.new.is_reading ≡ self.old.is_reading) × (self.new.outlet ≡ self.old.outlet)
+            × (self.new.shared ≡ self.old.shared) }
         ensures kept { Keeps cx.old cx.new }
     {
         if self.alarm.set_for.is_none() {
@@ -358,7 +380,7 @@ fn is_piece(given: &io::Result<bool>) -> bool
     matches!(given, Ok(true))
 }
 
-/// Tells a core of this moment, where something has expired by then.
+/// Reports this moment to a core, if something has expired by then.
 fn tell_moment<H: Held>(held: &mut H, now: u64)
     ensures { TellsMoment H.expires H.ticks held.old now held.new }
 {
@@ -385,8 +407,8 @@ fn wait_at<R: Clock, H: Held>(
     let _: Poll<()> = cx.register(asked, held.driver());
 }
 
-/// Hands on what the reader gave at this moment, of which the core is told first: a piece, its end, or its error. True: the reader is
-/// to be asked for more, since the core takes more, now or once there is room.
+/// Hands on the reader's result at this moment: a piece, the end, or an error. Before a piece the moment is reported to the core. Returns
+/// true if the reader is to be asked for more, since the core takes more, now or once there is room.
 fn hand_on<H: Held>(
     alloc: Global,
     held: &mut H,
@@ -394,9 +416,13 @@ fn hand_on<H: Held>(
     given: io::Result<bool>,
     now: u64,
 ) -> bool
-    ensures piece { given ≡ Ok true → (told : H) × TellsMoment H.expires H.ticks held.old now told × IsHandedOn H.takes told piece.old now result held.new piece.new }
-    ensures end { given ≡ Ok false → H.ends held.old held.new × (piece.new ≡ piece.old) × (result ≡ false) }
-    ensures broke { IfErr given (λ e. H.breaks held.old (error_kind e) held.new × (piece.new ≡ piece.old) × (result ≡ false)) }
+    ensures piece { given ≡ Ok true
+        → (told : H) × TellsMoment H.expires H.ticks held.old now told
+        × IsHandedOn H.takes told piece.old now result held.new piece.new }
+    ensures end { given ≡ Ok false
+        → H.ends held.old held.new × (piece.new ≡ piece.old) × (result ≡ false) }
+    ensures broke { IfErr given (λ e. H.breaks held.old (error_kind e) held.new
+        × (piece.new ≡ piece.old) × (result ≡ false)) }
 {
     match given {
         Ok(true) => {

@@ -15,7 +15,7 @@ use tokio::net::TcpListener;
 use tokio::reactor::Handle;
 use ttrpc_proto::{Error, Result};
 
-/// A listener for TCP. As a stream it gives the sockets that it accepts.
+/// A listener for TCP. As a stream it yields the sockets that it accepts.
 #[derive(Drop)]
 pub struct Listener {
     listener: TcpListener,
@@ -23,15 +23,15 @@ pub struct Listener {
 }
 
 impl Listener {
-    /// This listener. Whether each write of its sockets goes out at once is `nodelay`.
+    /// Makes a listener over this one. With `nodelay`, each write of its sockets goes out at once.
     pub fn new(listener: TcpListener, nodelay: bool) -> Listener
         ensures { (result.listener ≡ listener) × (result.nodelay ≡ nodelay) }
     {
         Listener { listener, nodelay }
     }
 
-    /// Listens at an address, `tcp://IP:PORT`. An address that names no place of TCP is `Others`, and a fault of the system
-    /// `Nix`.
+    /// Listens at an address, `tcp://IP:PORT`. The error is `Others` if the address names no place of TCP, and `Nix` if the system reports
+    /// a fault.
     pub fn bind<N: Net>(
         net: &N,
         alloc: Global,
@@ -64,7 +64,7 @@ impl Listener {
         }
     }
 
-    /// Where it listens. A fault of the system is `Nix`.
+    /// Returns the address of the listener. A fault of the system is `Nix`.
     pub fn local_addr(&self) -> Result<SocketAddr>
         ensures err { IfErr result IsFault }
     {
@@ -74,11 +74,12 @@ impl Listener {
         }
     }
 
-    /// Accepts a connection. Pending: the task is woken once there is one. A fault of the system is `Nix`; where no descriptor
-    /// is left it comes at once.
+    /// Accepts a connection. If pending, the task is woken once there is one. A fault of the system is `Nix`. If no descriptor is left,
+    /// this fault comes at once.
     pub fn poll_accept(&mut self, cx: &mut Context<'_>) -> Poll<Result<Socket>>
         ensures fault { IfReady result (λ accepted. IfErr accepted IsFault) }
-        ensures registered { OnPending result (Covers cx.new (λ s. s ≡ listener_readable self.new.listener)) }
+        ensures registered { OnPending result
+            (Covers cx.new (λ s. s ≡ listener_readable self.new.listener)) }
         ensures kept { Keeps cx.old cx.new }
         ensures same { self.new ≡ self.old }
     {
@@ -90,11 +91,12 @@ impl Listener {
     }
 }
 
-/// Whose sockets' writes wait to be gathered.
+/// Makes a listener without `nodelay`: the writes of its sockets wait to be gathered.
 impl From<TcpListener> for Listener {
     ghost use Rattle.std.specs.Prelude.{◌≡◌, false};
 
-    ghost from_gives = { λ given listener. (listener.listener ≡ given) × (listener.nodelay ≡ false) };
+    ghost from_gives = { λ given listener. (listener.listener ≡ given)
+        × (listener.nodelay ≡ false) };
 
     fn from(listener: TcpListener) -> Listener {
         Listener {

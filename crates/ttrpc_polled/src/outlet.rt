@@ -15,16 +15,16 @@ use tokio::io::AsyncWrite;
 /// The room of a connection that has nothing to write.
 pub const OUTLET_AT_REST: usize = 512;
 
-/// Once so many bytes are kept no further frame is added to them.
+/// The number of kept bytes from which no further frame is added to them.
 pub const OUTLET_LIMIT: usize = 65536;
 
-/// While fewer bytes are kept more are gathered for the same write, where somebody may have more to send.
+/// The number of kept bytes below which more are gathered for the same write, if a task may have more to send.
 pub const OUTLET_BATCH: usize = 32768;
 
-/// How many loans are taken at once at most, so that the lock is let go.
+/// The most loans that are taken at once, so that the lock is released in between.
 const LOANS: u32 = 64;
 
-/// A writer, and the bytes that it hasn't taken yet of those that were lent.
+/// A writer, and the lent bytes that it hasn't taken yet.
 #[derive(Drop)]
 pub struct Outlet<W> {
     pub writer: W,
@@ -32,7 +32,7 @@ pub struct Outlet<W> {
 }
 
 impl<W: AsyncWrite> Outlet<W> {
-    /// The outlet to this writer, which keeps nothing yet. Memory for the room at rest may be refused.
+    /// Makes the outlet to this writer, which keeps nothing yet. Memory for the room at rest may be refused.
     pub fn new(alloc: Global, writer: W) -> Result<Outlet<W>, AllocError>
         ensures { IfOk result (λ outlet. (outlet.writer ≡ writer) × (outlet.kept ≡ [])) }
     {
@@ -42,15 +42,16 @@ impl<W: AsyncWrite> Outlet<W> {
         })
     }
 
-    /// Whether more is to be gathered for the same write: it has begun with nothing yet, and little is kept.
+    /// Returns whether more is to be gathered for the same write: none of the kept bytes is written yet, and they are few.
     pub(crate) fn has_room(&self) -> bool {
         self.kept.is_whole() && self.kept.bytes().len() < OUTLET_BATCH
     }
 
-    /// Takes loans, until nothing is lent or enough is kept. Where nothing is kept then, nothing was lent, and room above that at
-    /// rest is let go.
+    /// Takes loans, until nothing is lent or enough is kept. If nothing is kept then, nothing was lent, and the room above that at rest is
+    /// released.
     pub fn gather<H: Held>(&mut self, held: &mut H)
-        ensures gathers { (bytes : List ℕ) × Gathers H.lends held.old bytes held.new × (self.new.kept ≡ self.old.kept ++ bytes) }
+        ensures gathers { (bytes : List ℕ) × Gathers H.lends held.old bytes held.new
+            × (self.new.kept ≡ self.old.kept ++ bytes) }
         ensures none { self.new.kept ≡ [] → LendsNone H.lends held.new }
         ensures some { self.old.kept ≢ [] → self.new.kept ≢ [] }
         ensures writer { self.new.writer ≡ self.old.writer }
@@ -62,7 +63,8 @@ impl<W: AsyncWrite> Outlet<W> {
     /// Takes loans, until nothing is lent or enough is kept.
     #[tactic(auto, using(crate::proofs::Gathering::gathers_more))]
     fn take_loans<H: Held>(&mut self, held: &mut H)
-        ensures gathers { (bytes : List ℕ) × Gathers H.lends held.old bytes held.new × (self.new.kept ≡ self.old.kept ++ bytes) }
+        ensures gathers { (bytes : List ℕ) × Gathers H.lends held.old bytes held.new
+            × (self.new.kept ≡ self.old.kept ++ bytes) }
         ensures none { self.new.kept ≡ [] → LendsNone H.lends held.new }
         ensures writer { self.new.writer ≡ self.old.writer }
     {
@@ -76,14 +78,20 @@ impl<W: AsyncWrite> Outlet<W> {
         }
     }
 
-    /// Writes what is kept. Ready: whether the writer took some of it, which one that is full doesn't.
+    /// Writes the kept bytes. Ready with whether the writer took some of them; a writer that is full takes none.
     pub fn poll_rest(&mut self, cx: &mut Context<'_>) -> Poll<io::Result<bool>>
-        ensures writes { Writes W.writes self.old.writer self.old.kept self.new.writer self.new.kept }
+        // The writer took the first of the kept bytes, and an error is the writer's.
+        ensures writes { Writes W.writes self.old.writer self.old.kept
+            self.new.writer self.new.kept }
         ensures failed { IfReadyErr result (W.fails self.new.writer) }
+        // A pending poll has registered with the writer.
         ensures registered { OnPending result (Covers cx.new (W.needs self.new.writer)) }
-        ensures full { result ≡ Poll.Ready (Ok false) → self.old.kept ≢ [] → W.is_full self.new.writer }
+        // At true the writer took some bytes. Otherwise it took none, and at false it is full if some were kept.
+        ensures full { result ≡ Poll.Ready (Ok false) → self.old.kept ≢ []
+            → W.is_full self.new.writer }
         ensures some { result ≡ Poll.Ready (Ok true) → length self.new.kept < length self.old.kept }
         ensures others { result ≢ Poll.Ready (Ok true) → self.new.kept ≡ self.old.kept }
+        // Earlier registrations are kept.
         ensures kept { Keeps cx.old cx.new }
     {
         match self.writer.poll_write(cx, self.kept.bytes()) {

@@ -12,7 +12,7 @@ use std::io;
 use std::marker::Model;
 use tokio::io::AsyncRead;
 
-/// Bytes that wait to be taken, with room for more behind them.
+/// Bytes that wait to be taken, with room for more after them.
 #[derive(Drop)]
 pub struct Piece {
     bytes: Vec<u8>,
@@ -31,7 +31,8 @@ impl Model for Piece {
 }
 
 impl Piece {
-    /// No bytes, and room for so many, but at least one. Its memory may be refused.
+    /// Makes an empty piece with room for `room` bytes, and at least one. Memory for it may be
+    /// refused.
     pub fn new(alloc: Global, room: usize) -> Result<Piece, AllocError>
         ensures { IfOk result (λ piece. piece ≡ []) }
     {
@@ -42,14 +43,14 @@ impl Piece {
         })
     }
 
-    /// The bytes.
+    /// Returns the bytes.
     pub fn bytes(&self) -> &[u8]
         ensures { result.now ≡ self.now }
     {
         &self.bytes.as_slice()[..self.to][self.from..]
     }
 
-    /// Whether there are none.
+    /// Returns whether there are no bytes.
     pub fn is_empty(&self) -> bool
         ensures yes { result ≡ true → self.now ≡ [] }
         ensures no { result ≡ false → self.now ≢ [] }
@@ -57,17 +58,17 @@ impl Piece {
         self.from == self.to
     }
 
-    /// Whether none of them were taken yet.
+    /// Returns whether none of the bytes were taken yet.
     pub(crate) fn is_whole(&self) -> bool {
         self.from == 0
     }
 
-    /// How many more there is room for.
+    /// Returns how many more bytes there is room for.
     pub(crate) fn room(&self) -> usize {
         self.bytes.len() - self.to
     }
 
-    /// The first of them are taken.
+    /// Removes the first `count` bytes, which were taken.
     pub(crate) fn took(&mut self, count: usize)
         requires { count ≤ length self.old }
         ensures { self.new ≡ drop count self.old }
@@ -79,7 +80,7 @@ impl Piece {
         }
     }
 
-    /// Makes room for so many more, where memory is found.
+    /// Makes room for `count` more bytes, if memory is found.
     pub(crate) fn make_room(&mut self, count: usize)
         ensures { self.new ≡ self.old }
     {
@@ -88,7 +89,7 @@ impl Piece {
         }
     }
 
-    /// Lets go of the room for more than so many, but at least one, where it is empty.
+    /// Releases the room above `room` bytes, and above at least one, if the piece is empty.
     pub(crate) fn let_go(&mut self, room: usize)
         ensures { self.new ≡ self.old }
     {
@@ -100,7 +101,7 @@ impl Piece {
         }
     }
 
-    /// Takes a loan, of a whole frame where there is memory for it, and says of how many bytes.
+    /// Takes a loan, of a whole frame if there is memory for it, and returns how many bytes it has.
     pub(crate) fn take_loan<H: Held>(&mut self, held: &mut H) -> usize
         ensures loan { TakesLoan H.lends held.old result self.old held.new self.new }
         ensures count { length self.new ≡ length self.old + result }
@@ -111,16 +112,19 @@ impl Piece {
         count
     }
 
-    /// Reads as much as there is room for, and says how many bytes that was.
+    /// Reads as many bytes as there is room for, and returns how many.
     pub(crate) fn poll_read<S: AsyncRead>(
         &mut self,
         reader: &mut S,
         cx: &mut Context<'_>,
     ) -> Poll<io::Result<usize>>
+        // The piece is empty.
         requires { self.old ≡ [] }
+        // The bytes that were read are the piece, and the result counts them. After a count of 0 the reader is at its end.
         ensures reads { S.reads reader.old self.new reader.new }
         ensures count { length self.new ≡ count_moved result }
         ensures end { result ≡ Poll.Ready (Ok 0) → S.is_at_end reader.new }
+        // An error is the reader's. A pending poll has registered with the reader, and earlier registrations are kept.
         ensures failed { IfReadyErr result (S.fails reader.new) }
         ensures registered { OnPending result (Covers cx.new (S.needs reader.new)) }
         ensures kept { Keeps cx.old cx.new }
@@ -135,11 +139,12 @@ impl Piece {
     }
 }
 
-/// A loan, into this buffer behind so many bytes of it.
+/// Takes a loan into this buffer, after its first `at` bytes.
 fn lend_at<H: Held>(held: &mut H, buffer: &mut [u8], at: usize) -> usize
     requires { at ≤ length buffer.old }
     ensures bound { at + result ≤ length buffer.new }
-    ensures loan { TakesLoan H.lends held.old result (take at buffer.old) held.new (take (at + result) buffer.new) }
+    ensures loan { TakesLoan H.lends held.old result (take at buffer.old) held.new
+        (take (at + result) buffer.new) }
 {
     held.lend(&mut buffer[at..])
 }

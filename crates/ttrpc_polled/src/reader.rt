@@ -6,9 +6,9 @@ use std::io::{self, ErrorKind};
 use tokio::io::AsyncRead;
 use tokio::net::OwnedReadHalf;
 
-/// The reading half of a socket. Until the system has said once that a read would block, it is asked at each read, whatever is known
-/// of what there is to read: an event that came before its event loop had taken in its task is lost there, and would be
-/// waited for without an end.
+/// The reading half of a socket. Until a read has once been answered with "would block", each read asks the system, whatever is known of
+/// the socket. An event that came before the event loop had taken in its task is lost there. A task that waited for such an event would
+/// wait without an end.
 #[derive(Drop)]
 pub struct SocketReader {
     half: OwnedReadHalf,
@@ -16,7 +16,7 @@ pub struct SocketReader {
 }
 
 impl SocketReader {
-    /// Reads from this half.
+    /// Makes a reader of this half.
     pub fn new(half: OwnedReadHalf) -> SocketReader
         ensures { result.half ≡ half }
     {

@@ -1,22 +1,21 @@
-//! What is left of one poll of a connection.
+//! The rest of one poll of a connection.
 ghost use Rattle.std.specs.Prelude.{◌≡◌, ◌+◌, ◌^◌, ◌-◌, min, true, false};
 ghost use Rattle.ttrpc_polled.specs.Sharing.{IsSpent, fresh};
 
 use std::time::Clock;
 use ttrpc_transport::moment;
 
-/// How long a poll goes on, in nanoseconds, but for what it is at then.
+/// The time for which a poll goes on, in nanoseconds. It still ends the work that it is doing then.
 pub const POLL_TIME: u64 = 100_000;
 
-/// With how many jobs a poll is over.
+/// The number of jobs after which a poll is over.
 pub const POLL_JOBS: u32 = 16;
 
-/// How often a poll moves something before it reads the clock each time.
+/// The number of moves from which on a poll reads the clock each time.
 const POLL_MOVES: u32 = 4;
 
-/// What is left of one poll of a connection, which a look at the connection gives. A poll hands on one piece at most, and is over
-/// with 16 jobs, or behind 100 microseconds by the clock. The clock is read behind each job, and each time that something moves
-/// from the fourth on.
+/// The rest of one poll of a connection, which a look at the connection returns. A poll hands on one piece at most, and is over after 16
+/// jobs, or after 100 microseconds by the clock. The clock is read after each job, and each time that something moves from the fourth on.
 #[derive(Debug, Drop)]
 pub struct Share {
     moment: u64,
@@ -27,7 +26,7 @@ pub struct Share {
 }
 
 impl Share {
-    /// Makes that of a poll that begins at this moment.
+    /// Makes the share of a poll that begins at this moment.
     pub(crate) fn new(now: u64) -> Share
         ensures { result ≡ fresh now }
     {
@@ -55,7 +54,7 @@ impl Share {
         self.until <= self.moment || self.jobs >= POLL_JOBS
     }
 
-    /// Returns whether a piece may be handed on. It may be once.
+    /// Returns whether a piece may be handed on. A poll may hand on one.
     pub(crate) fn may_hand_on(&self) -> bool
         ensures { result ≡ self.now.may_hand_on }
     {

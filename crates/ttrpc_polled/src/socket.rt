@@ -28,15 +28,15 @@ pub struct Socket {
 }
 
 impl Socket {
-    /// The socket of this stream.
+    /// Makes the socket of this stream.
     pub fn new(stream: TcpStream) -> Socket
         ensures { result.stream ≡ stream }
     {
         Socket { stream }
     }
 
-    /// Connects to an address, `tcp://IP:PORT`. Whether each write goes out at once is `nodelay`. An address that names no
-    /// place of TCP is `Others`, and a fault of the system `Nix`.
+    /// Connects to an address, `tcp://IP:PORT`. With `nodelay`, each write goes out at once. The error is `Others` if the address names no
+    /// place of TCP, and `Nix` if the system reports a fault.
     pub fn connect<N: Net>(
         net: &N,
         alloc: Global,
@@ -72,7 +72,7 @@ impl Socket {
         }
     }
 
-    /// Whether each write goes out at once. A fault of the system is `Nix`.
+    /// Returns whether each write goes out at once. A fault of the system is `Nix`.
     pub fn nodelay(&self) -> Result<bool>
         ensures { IfErr result IsFault }
     {
@@ -82,7 +82,7 @@ impl Socket {
         }
     }
 
-    /// Its two halves, which are closed once both are dropped. A fault of the system is `Nix`.
+    /// Splits the socket into its two halves. The socket is closed once both are dropped. A fault of the system is `Nix`.
     pub fn into_split(self) -> Result<(SocketReader, OwnedWriteHalf)>
         ensures { IfErr result IsFault }
     {
@@ -92,27 +92,30 @@ impl Socket {
         }
     }
 
-    /// Reads. Pending: the task is woken once the socket can be read.
+    /// Reads from the socket. If pending, the task is woken once the socket can be read.
     pub fn poll_read(&mut self, cx: &mut Context<'_>, buf: &mut [u8]) -> Poll<io::Result<usize>>
         ensures bound { count_moved result ≤ length buf.new }
-        ensures registered { OnPending result (Covers cx.new (λ s. s ≡ stream_readable self.new.stream)) }
+        ensures registered { OnPending result
+            (Covers cx.new (λ s. s ≡ stream_readable self.new.stream)) }
         ensures kept { Keeps cx.old cx.new }
     {
         self.stream.poll_read(cx, buf)
     }
 
-    /// Writes. Pending: the task is woken once the socket can be written.
+    /// Writes to the socket. If pending, the task is woken once the socket can be written.
     pub fn poll_write(&mut self, cx: &mut Context<'_>, buf: &[u8]) -> Poll<io::Result<usize>>
         ensures bound { count_moved result ≤ length buf.now }
-        ensures registered { OnPending result (Covers cx.new (λ s. s ≡ stream_writable self.new.stream)) }
+        ensures registered { OnPending result
+            (Covers cx.new (λ s. s ≡ stream_writable self.new.stream)) }
         ensures kept { Keeps cx.old cx.new }
     {
         self.stream.poll_write(cx, buf)
     }
 
-    /// Flushes, which for a socket there is nothing to do.
+    /// Flushes the socket, for which there is nothing to do.
     pub fn poll_flush(&mut self, cx: &mut Context<'_>) -> Poll<io::Result<()>>
-        ensures registered { OnPending result (Covers cx.new (λ s. s ≡ stream_writable self.new.stream)) }
+        ensures registered { OnPending result
+            (Covers cx.new (λ s. s ≡ stream_writable self.new.stream)) }
         ensures kept { Keeps cx.old cx.new }
     {
         self.stream.poll_flush(cx)
@@ -129,7 +132,7 @@ impl From<TcpStream> for Socket {
     }
 }
 
-/// The IP address and port that an address names.
+/// Returns the IP address and port that an address names.
 pub(crate) fn tcp_of(alloc: Global, sockaddr: &str) -> Result<SocketAddr>
     ensures ok { IfOk result (IsTcp sockaddr.now) }
     ensures err { IfErr result (IsNoTcp sockaddr.now) }
@@ -140,7 +143,7 @@ pub(crate) fn tcp_of(alloc: Global, sockaddr: &str) -> Result<SocketAddr>
     }
 }
 
-/// The error for the path of a Unix socket.
+/// Makes the error for the path of a Unix socket.
 fn unsupported(alloc: Global) -> Error
     ensures { IsUnsupported result }
 {
@@ -150,18 +153,18 @@ fn unsupported(alloc: Global) -> Error
     }
 }
 
-/// Where a connection is that is begun.
+/// The state of a connection that was begun.
 #[derive(Drop)]
 pub enum Connecting {
-    /// It is under way.
+    /// The connection is under way.
     Connects(ConnectFuture),
     /// The address was refused.
     Refused(Error),
-    /// Its answer was given.
+    /// The answer was returned.
     Done,
 }
 
-/// A connection that is begun.
+/// A connection that was begun.
 #[derive(Drop)]
 pub struct SocketConnect {
     state: Connecting,
@@ -193,7 +196,7 @@ impl Future for SocketConnect {
     }
 }
 
-/// The socket of a stream that is connected, whose writes go out at once or not.
+/// Makes the socket of a connected stream. With `nodelay`, its writes go out at once.
 pub(crate) fn ready_stream(stream: TcpStream, nodelay: bool) -> Result<Socket>
     ensures ok { IfOk result (λ socket. socket.stream ≡ stream) }
     ensures err { IfErr result IsFault }

@@ -1,4 +1,4 @@
-//! The wakers of those who wait for what a core tells.
+//! The wakers of tasks that wait for a core.
 ghost use Rattle.std.specs.Prelude.{◌≡◌, [], length, IfSome, IfNone};
 ghost use Rattle.std.specs.BTreeMap.{is_at};
 ghost use Rattle.std.specs.Ordering.{nat_cmp};
@@ -11,8 +11,8 @@ use std::alloc::Global;
 use std::marker::Model;
 use ttrpc_table::Table;
 
-/// The wakers of those who wait, each under the number of what it waits for, which contracts see as these numbers, in order.
-/// A waker wakes as it is dropped.
+/// The wakers of waiting tasks, each under the number of the thing that the task waits for. Contracts see the wakers as these numbers, in
+/// order. A waker wakes its task when it is dropped.
 #[derive(Drop)]
 pub struct Wakers {
     slots: Table<Option<Waker>>,
@@ -28,7 +28,7 @@ impl Model for Wakers {
 }
 
 impl Wakers {
-    /// Nobody waits.
+    /// Makes an empty collection of wakers.
     pub fn new(alloc: Global) -> Wakers
         ensures { result ≡ [] }
     {
@@ -37,7 +37,7 @@ impl Wakers {
         }
     }
 
-    /// Waits under this number, at this source. Where there is no memory for that the task is polled again at once.
+    /// Waits under this number, at this source. If there is no memory for that, the task is polled again at once.
     pub fn wait<T>(&mut self, key: u64, source: &Source, cx: &mut Context<'_>) -> Poll<T>
         ensures pending { result ≡ Poll.Pending }
         ensures registered { Covers cx.new (λ s. s ≡ source.now.id) }
@@ -48,12 +48,12 @@ impl Wakers {
         }
         let mut slot = None;
         let pending = cx.register(source, &mut slot);
-        // A waker that finds no place is dropped, and so wakes.
+        // A waker that finds no place is dropped, and so wakes its task.
         let _ = self.slots.insert(key, slot);
         pending
     }
 
-    /// Wakes who waits under this number.
+    /// Wakes the task that waits under this number.
     pub fn wake(&mut self, key: u64)
         ensures { self.new ≡ remove_key (is_at (nat_cmp key)) self.old }
     {
@@ -63,21 +63,25 @@ impl Wakers {
         let _ = self.slots.remove(key);
     }
 
-    /// Wakes everybody.
+    /// Wakes all tasks.
     pub fn wake_all(&mut self)
         ensures { self.new ≡ [] }
     {
+        // Mostly no task waits, and clearing a table writes each place of it.
+        if self.slots.is_empty() {
+            return;
+        }
         self.slots.clear();
     }
 
-    /// How many wait.
+    /// Returns how many tasks wait.
     pub fn len(&self) -> usize
         ensures { result ≡ length self.now }
     {
         self.slots.len()
     }
 
-    /// The least number under which somebody waits.
+    /// Returns the least number under which a task waits.
     pub fn first(&self) -> Option<u64>
         ensures some { IfSome result (IsFirst self.now) }
         ensures none { IfNone result (self.now ≡ []) }

@@ -15,23 +15,23 @@ use Rattle.ttrpc_polled.specs.declared.socket.Socket.{Socket}
 use Rattle.ttrpc_polled_client.specs.declared.line.ClientLine.{ClientLine}
 use Rattle.ttrpc_polled_client.specs.declared.shared.ClientShared.{ClientShared}
 
--- The client's line and the link share one thing, the link is over this reader and writer and has moved nothing, and this is
--- known of the connection.
+-- The client's line and the link share one state. The link is over this reader and writer and has moved nothing, and these are the
+-- connection's data.
 pub record IsMadeOver {R S W O I : Type 0} (reader : S) (writer : W) (known : Facts) (line : ClientLine O I) (link : Link R S W (ClientShared O I)) : Type 0 where
   pub shared : arc_value link.shared ≡ arc_value line.shared
   pub facts : facts_of line.connection_data.entries ≡ known
   pub reads : (link.inlet.reader ≡ reader) × (link.inlet.piece ≡ []) × (link.is_reading ≡ true)
   pub writes : (link.outlet.writer ≡ writer) × (link.outlet.kept ≡ []) × (link.alarm.set_for ≡ None)
 
--- the hook refused the connection, for a reason that it gives
+-- the hook refused the connection, for a reason that the hook gives
 abbrev pub IsRefusedByHook : (HookError → Type 0) → Error → Type 0
 IsRefusedByHook gives e = (why : HookError) × gives why × IsOthers (codes "client connect hook failed: ") (hook_error_text why) e
 
--- of a socket a client is made, if memory and the system allow it; and else what was given in its place is told
+-- a client is made of a socket, if memory and the system allow it; an error in place of the socket is passed on
 abbrev pub MakesOf : {A : Type 0} → Result Socket Error → Result A Error → Type 0
 MakesOf (Ok socket) r = IfErr r IsNotMade
 MakesOf (Err e) r = r ≡ Err e
 
--- a client that connects tells of what its socket gave
+-- a client that connects has the result for its socket
 abbrev pub ConnectGives : {A : Type 0} → Connecting → Result A Error → Type 0
 ConnectGives state r = (given : Result Socket Error) × ConnectingGives state given × MakesOf given r

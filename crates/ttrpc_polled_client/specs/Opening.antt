@@ -1,4 +1,4 @@
--- What the value of a stream that is opened gives, where it is stepped on a core that is lent.
+-- The result of the value of a stream that is opened, when it is stepped on a core that is lent.
 -- Source: this project's.
 use Rattle.std.specs.Prelude.{◌≡◌, ℕ, Option, Some, None, Result, Ok, Err}
 use Rattle.std.specs.Arc.{arc_value}
@@ -16,13 +16,13 @@ abbrev pub IsStreamOf : {O I : Type 0} → Prepared O I → ℕ → StreamInner 
 IsStreamOf p id stream = ((arc_value stream.sender.seat).line ≡ p.sends) × ((arc_value stream.sender.seat).id ≡ id)
     × (stream.receiver.line ≡ p.receives) × (stream.receiver.id ≡ id)
 
--- What is given where the core answered this: the stream, unless memory for its halves was refused; or the refusal.
+-- The result for this answer of the core: the stream, unless memory for its halves was refused; or the refusal.
 abbrev pub GivesStream : {O I : Type 0} → Prepared O I → Result ℕ Error → Result (StreamInner (ClientLine O I) ℕ) Error → Type 0
 GivesStream p (Ok id) (Ok stream) = IsStreamOf p id stream
 GivesStream p (Ok id) (Err e) = e ≡ NoMemory
 GivesStream p (Err e) given = given ≡ Err e
 
--- The one core call was made. What was opened before is over, and nothing was asked.
+-- The one core call was made. A stream that was opened before is over, and the core wasn't asked.
 abbrev pub IsNewStream : {O I : Type 0} → OutboundTransform O → ClientCore O I → Option (Prepared O I) → Result (StreamInner (ClientLine O I) ℕ) Error → ClientCore O I → Type 0
 IsNewStream out old None given new = (given ≡ Err LocalClosed) × (new ≡ old)
 IsNewStream out old (Some p) given new = (told : Result ℕ Error)

@@ -1,4 +1,4 @@
--- What a step of a client's call does to the core that it is lent.
+-- The effect of a step of a client's call on the core that it is lent.
 -- Source: this project's.
 use Rattle.std.specs.Prelude.{◌≡◌, ◌≢◌, ◌⊎◌, ◌^◌, nat_lt, if◌then◌else◌, ℕ, [], Bool, true, false, Option, Some, None, Result, Ok, Err}
 use Rattle.ttrpc_proto.specs.declared.error.Error.{Error}
@@ -31,7 +31,7 @@ id_of (Stalls place request now) = None
 id_of (Refused e) = None
 id_of Done = None
 
--- whether a call is still to be made
+-- true if a call is still to be made
 abbrev pub is_new : Asked → Bool
 is_new (Asks request now) = true
 is_new (Stalls place request now) = true
@@ -47,7 +47,7 @@ place_of (Waits id) = None
 place_of (Refused e) = None
 place_of Done = None
 
--- a call that waits at this place for room, if it is still to be made
+-- the call, waiting at this place for room, if it is still to be made
 abbrev pub stalled : ℕ → Asked → Asked
 stalled place (Asks request now) = Stalls place request now
 stalled place (Stalls other request now) = Stalls place request now
@@ -72,7 +72,7 @@ expiry_of (Waits id) = None
 expiry_of (Refused e) = None
 expiry_of Done = None
 
--- What is left of a call that was to be made: it waits under its id, stays as it was if there was no room, or was refused for this.
+-- The rest of a call that was to be made. It waits under its id, stays as it was if there was no room, or was refused for this error.
 abbrev pub IsAsked : Result ℕ Error → Asked → Option (Result Response Error) → Asked → Type 0
 IsAsked (Ok id) call given after = (given ≡ None) × (after ≡ Waits id)
 IsAsked (Err NoRoom) call given after = (given ≡ None) × (after ≡ call)
@@ -84,12 +84,12 @@ Begins out call old request now None after new = ((id : ℕ) × (after ≡ Waits
 Begins out call old request now (Some (Err e)) after new = (after ≡ Done) × (new ≡ old) × RefusesRequest out old request e × (e ≢ NoRoom)
 Begins out call old request now (Some (Ok r)) after new = ⊥
 
--- what is left of a call once this was given
+-- the rest of a call after this result
 abbrev pub after_outcome : ℕ → Option (Result Response Error) → Asked
 after_outcome id None = Waits id
 after_outcome id (Some outcome) = Done
 
--- Its outcome was asked for.
+-- The outcome of a call was asked for.
 abbrev pub Takes : {O I : Type 0} → ClientCore O I → ℕ → Option (Result Response Error) → Asked → ClientCore O I → Type 0
 Takes old id given after new = TakesOutcome old id given new × (after ≡ after_outcome id given)
 
@@ -104,7 +104,7 @@ abbrev pub Opens : {O I : Type 0} → OutboundTransform O → ClientCore O I →
 Opens out old request streaming_client streaming_server (Ok id) new = OpensStream out old request streaming_client streaming_server id new
 Opens out old request streaming_client streaming_server (Err e) new = (new ≡ old) × RefusesStream out old request streaming_client e
 
--- ---- a call's step, by where the call was
+-- ---- a call's step, by the state of the call
 
 -- the one core call that the state names was made
 abbrev pub IsStep : {O I : Type 0} → OutboundTransform O → ClientCore O I → Asked → Option (Result Response Error) → Asked → ClientCore O I → Type 0

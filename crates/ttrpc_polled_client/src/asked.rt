@@ -1,4 +1,4 @@
-//! Where a call is, between its steps.
+//! The state of a call, between its steps.
 ghost use Rattle.std.specs.Prelude.{◌≡◌};
 ghost use Rattle.ttrpc_polled_client.specs.Steps.{IsAsked, IsStep, expiry_of, id_of, is_new, place_of, stalled};
 
@@ -9,23 +9,23 @@ use ttrpc_connection::deadlines::deadline_of;
 use ttrpc_proto::{Error, Request, Response, Result};
 use ttrpc_secure::{InboundTransform, OutboundTransform};
 
-/// Where a call is. Each step makes the one core call that it names.
+/// The state of a call. Each step makes the one core call that the state names.
 #[derive(Debug, Drop)]
 pub enum Asked {
-    /// It is to be made, as of this moment in nanoseconds: `request`.
+    /// The call is to be made, as of this moment in nanoseconds: `request`.
     Asks(Request, u64),
-    /// There was no room. It waits at this place, to be made as of this moment in nanoseconds.
+    /// There was no room. The call waits at this place, to be made as of this moment in nanoseconds.
     Stalls(u64, Request, u64),
-    /// It waits for its outcome: `take_outcome`.
+    /// The call waits for its outcome: `take_outcome`.
     Waits(CallId),
-    /// It was refused before any core was asked.
+    /// The call was refused before any core was asked.
     Refused(Error),
-    /// Its outcome was given.
+    /// The outcome was returned.
     Done,
 }
 
 impl Asked {
-    /// Makes the one core call. `None`: there is no outcome yet. A call whose outcome was given is `LocalClosed`.
+    /// Makes the one core call. Returns `None` if there is no outcome yet. A call that has returned its outcome is `LocalClosed`.
     pub fn step<O: OutboundTransform + Drop, I: InboundTransform + Drop>(
         &mut self,
         alloc: Global,
@@ -33,46 +33,47 @@ impl Asked {
     ) -> Option<Result<Response>>
         ensures { IsStep O.OutboundTransform core.old self.old result self.new core.new }
     {
-        match replace(self, Asked::Done) {
+        match self {
             Asked::Asks(request, now) => {
-                let asked = core.request(alloc, &request, now);
-                self.asked(asked, Asked::Asks(request, now))
+                let asked = core.request(alloc, request, *now);
+                self.asked(asked)
             }
-            Asked::Stalls(place, request, now) => {
-                let asked = core.request(alloc, &request, now);
-                self.asked(asked, Asked::Stalls(place, request, now))
+            Asked::Stalls(_place, request, now) => {
+                let asked = core.request(alloc, request, *now);
+                self.asked(asked)
             }
             Asked::Waits(id) => {
-                let outcome = core.take_outcome(alloc, id);
-                if outcome.is_none() {
-                    *self = Asked::Waits(id);
+                let outcome = core.take_outcome(alloc, *id);
+                if outcome.is_some() {
+                    *self = Asked::Done;
                 }
                 outcome
             }
-            Asked::Refused(error) => Some(Err(error)),
-            Asked::Done => Some(Err(Error::LocalClosed)),
+            Asked::Refused(_) | Asked::Done => match replace(self, Asked::Done) {
+                Asked::Refused(error) => Some(Err(error)),
+                _ => Some(Err(Error::LocalClosed)),
+            },
         }
     }
 
-    /// The call after it was to be made: it waits under its id, stays as it was if there was no room, or is over.
-    fn asked(&mut self, asked: Result<CallId>, call: Asked) -> Option<Result<Response>>
-        requires { self.old ≡ Asked.Done }
-        ensures { IsAsked asked call result self.new }
+    /// Sets the state after the call was to be made: it waits under its id, stays as it was if there was no room, or is over.
+    fn asked(&mut self, asked: Result<CallId>) -> Option<Result<Response>>
+        ensures { IsAsked asked self.old result self.new }
     {
         match asked {
             Ok(id) => {
                 *self = Asked::Waits(id);
                 None
             }
-            Err(Error::NoRoom) => {
-                *self = call;
-                None
+            Err(Error::NoRoom) => None,
+            Err(refusal) => {
+                *self = Asked::Done;
+                Some(Err(refusal))
             }
-            Err(refusal) => Some(Err(refusal)),
         }
     }
 
-    /// The call waits at this place for room, if it is still to be made.
+    /// Sets the place at which the call waits for room, if it is still to be made.
     pub(crate) fn stall(&mut self, place: u64)
         ensures { self.new ≡ stalled place self.old }
     {
@@ -83,7 +84,7 @@ impl Asked {
         }
     }
 
-    /// Returns the place at which it waits for room.
+    /// Returns the place at which the call waits for room.
     pub(crate) fn place(&self) -> Option<u64>
         ensures { result ≡ place_of self.now }
     {
@@ -93,7 +94,7 @@ impl Asked {
         }
     }
 
-    /// Returns the moment at which it expires, in nanoseconds, if it is still to be made and that is a moment of the clock.
+    /// Returns the moment at which the call expires, in nanoseconds, if the call is still to be made and the moment is one of the clock.
     pub(crate) fn expiry(&self) -> Option<u64>
         ensures { result ≡ expiry_of self.now }
     {
@@ -106,7 +107,7 @@ impl Asked {
         }
     }
 
-    /// The id under which it waits.
+    /// Returns the id under which the call waits.
     pub fn id(&self) -> Option<CallId>
         ensures { result ≡ id_of self.now }
     {
@@ -116,7 +117,7 @@ impl Asked {
         }
     }
 
-    /// Whether it is still to be made.
+    /// Returns whether the call is still to be made.
     pub fn is_new(&self) -> bool
         ensures { result ≡ is_new self.now }
     {

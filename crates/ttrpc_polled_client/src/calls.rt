@@ -1,4 +1,4 @@
-//! Calls and streams whose values are messages.
+//! Calls and streams of messages.
 ghost use Rattle.std.specs.Prelude.{◌≡◌, [], true, false, IfErr, IfOk, IsSomeAnd};
 ghost use Rattle.std.specs.Arc.{arc_value};
 ghost use Rattle.futures.specs.Poll.{IfReady, OnPending};
@@ -28,14 +28,14 @@ use ttrpc_proto::{Error, Request, RequestInit, Result};
 use ttrpc_secure::{InboundTransform, OutboundTransform};
 use ttrpc_wire::Codec;
 
-/// Where a call of a service's method is.
+/// The state of a call of a service's method.
 #[derive(Drop)]
 enum Calling<O: OutboundTransform + Drop, I: InboundTransform + Drop, P> {
-    /// It waits for its response, whose payload goes into this value.
+    /// The call waits for its response, and takes the response's payload into this value.
     Waits(ClientRequest<O, I>, P),
-    /// It was refused before it was made.
+    /// The call was refused before it was made.
     Refused(Error),
-    /// Its outcome was given.
+    /// The outcome was returned.
     Done,
 }
 
@@ -46,8 +46,8 @@ pub struct ClientCall<O: OutboundTransform + Drop, I: InboundTransform + Drop, P
     at: Calling<O, I, P>,
 }
 
-/// The call of a service's method with this value, as the context says; the payload of its response goes into `reply`. What
-/// refuses the request is the call's outcome.
+/// Makes the call of a service's method with this value, and with the context's metadata and time limit. The payload of the response goes
+/// into `reply`. If the request is refused, the refusal is the call's outcome.
 pub fn call_of<R, O, I, Q, P>(
     client: &Client<R, O, I>,
     service: &str,
@@ -63,7 +63,8 @@ where
     Q: Codec,
     Q::E: Display + Drop,
     P: Drop,
-    ensures { IsCalling (arc_value client.now.line) (asks_for service.now method.now context (Q.written message.now)) reply
+    ensures { IsCalling (arc_value client.now.line)
+        (asks_for service.now method.now context (Q.written message.now)) reply
         (IsNotCalled Q.E.is_no_memory Q.E.output (Q.written message.now)) result.at }
 {
     let alloc = client.alloc();
@@ -116,9 +117,9 @@ where
     }
 }
 
-/// What a stream that is open becomes.
+/// The value that is made of an open stream.
 pub trait OfStream<R: Timed, O: OutboundTransform + Drop, I: InboundTransform + Drop>: Drop {
-    /// Over this stream of this client.
+    /// Makes the value over this stream of this client.
     fn of_stream(inner: StreamInner<ClientLine<O, I>>, client: Client<R, O, I>) -> Self;
 }
 
@@ -152,7 +153,7 @@ where
     }
 }
 
-/// A stream of which only the server sends messages. It keeps its client, and so the connection.
+/// A stream on which only the server sends messages. It keeps its client, and so the connection.
 #[derive(Drop)]
 pub struct ClientStreamReceiver<
     P,
@@ -172,7 +173,7 @@ where
     P: Codec,
     P::E: Display + Drop,
 {
-    /// The receiving half of this stream of this client; the other half is dropped.
+    /// Makes the receiving half of this stream of this client, and drops the other half.
     pub fn new(inner: StreamInner<ClientLine<O, I>>, client: Client<R, O, I>) -> Self
         ensures { (result.rx.rx ≡ inner.receiver) × (result.client ≡ client) }
     {
@@ -182,17 +183,18 @@ where
         }
     }
 
-    /// Receives the next message: none where the server closed. An error is another reason why there is none.
+    /// Receives the next message, or none if the server closed. An error is another reason why there is none.
     pub fn recv(&mut self) -> SSReceiverRecv<'_, P, ClientLine<O, I>>
         ensures { result.receiver.now ≡ self.old.rx }
     {
         self.rx.recv()
     }
 
-    /// The same, for a state that keeps this receiver.
+    /// Receives as `recv` does, for a state that keeps this receiver.
     pub fn poll_recv(&mut self, cx: &mut Context<'_>) -> Poll<Result<Option<P>>>
         ensures item { IfReady result (GivesItemOrEnd P.meaning P.E.is_no_memory P.E.output) }
-        ensures registered { OnPending result (Covers cx.new (λ s. s ≡ receiver_source line_source self.new.rx.rx)) }
+        ensures registered { OnPending result
+            (Covers cx.new (λ s. s ≡ receiver_source line_source self.new.rx.rx)) }
         ensures same { self.new ≡ self.old }
         ensures kept { Keeps cx.old cx.new }
     {
@@ -213,25 +215,25 @@ where
     }
 }
 
-/// Where a stream of a service is that is to be opened.
+/// The state of a service's stream that is to be opened.
 #[derive(Drop)]
 enum OpeningAt<R: Timed, O: OutboundTransform + Drop, I: InboundTransform + Drop> {
-    /// It is opened as it is polled.
+    /// The stream is opened when it is polled.
     Opens(ClientNewStream<O, I>, Client<R, O, I>),
-    /// It was refused before.
+    /// The stream was refused before.
     Refused(Error),
-    /// It is open.
+    /// The stream is open.
     Done,
 }
 
-/// A stream of a service, which is opened as this is first polled. It is ready with the stream.
+/// A stream of a service, which is opened when this future is first polled. It is ready with the stream.
 #[derive(Drop)]
 pub struct ClientOpening<K, R: Timed, O: OutboundTransform + Drop, I: InboundTransform + Drop> {
     at: OpeningAt<R, O, I>,
     kind: PhantomData<K>,
 }
 
-/// The stream of this name of a service, which begins without a payload.
+/// Makes the future that opens a service's stream of this name, without a payload.
 pub fn open_of<K, R, O, I>(
     client: &Client<R, O, I>,
     service: &str,
@@ -243,7 +245,8 @@ where
     R: Timed,
     O: OutboundTransform + Drop,
     I: InboundTransform + Drop,
-    ensures { IsOpening (arc_value client.now.line) (record { request = asks_for service.now stream.now context []; streaming_client = true; streaming_server = streaming_server })
+    ensures { IsOpening (arc_value client.now.line)
+        (record { request = asks_for service.now stream.now context []; streaming_client = true; streaming_server = streaming_server })
         (λ e. e ≡ AnError.NoMemory) result.at }
 {
     match bare_request(client.alloc(), service, stream, context) {
@@ -252,7 +255,7 @@ where
     }
 }
 
-/// The stream of this name of a service, of which this value is the client's one item.
+/// Makes the future that opens a service's stream of this name, with this value as the client's one item.
 pub fn open_with<K, R, O, I, Q>(
     client: &Client<R, O, I>,
     service: &str,
@@ -266,7 +269,8 @@ where
     I: InboundTransform + Drop,
     Q: Codec,
     Q::E: Display + Drop,
-    ensures { IsOpening (arc_value client.now.line) (record { request = asks_for service.now stream.now context (Q.written message.now); streaming_client = false; streaming_server = true })
+    ensures { IsOpening (arc_value client.now.line)
+        (record { request = asks_for service.now stream.now context (Q.written message.now); streaming_client = false; streaming_server = true })
         (IsNotCalled Q.E.is_no_memory Q.E.output (Q.written message.now)) result.at }
 {
     match request_of(client.alloc(), service, stream, context, message) {
@@ -281,7 +285,7 @@ where
     O: OutboundTransform + Drop,
     I: InboundTransform + Drop,
 {
-    /// A stream that is here.
+    /// Makes an opening in this state.
     fn of(at: OpeningAt<R, O, I>) -> Self
         ensures { result.at ≡ at }
     {
@@ -292,7 +296,7 @@ where
     }
 }
 
-/// The stream that this request opens.
+/// Makes the future of the stream that this request opens.
 fn opening<K, R, O, I>(
     client: &Client<R, O, I>,
     request: Request,
@@ -303,7 +307,8 @@ where
     R: Timed,
     O: OutboundTransform + Drop,
     I: InboundTransform + Drop,
-    ensures { IsOpening (arc_value client.now.line) (record { request = request; streaming_client = streaming_client; streaming_server = streaming_server })
+    ensures { IsOpening (arc_value client.now.line)
+        (record { request = request; streaming_client = streaming_client; streaming_server = streaming_server })
         (λ e. e ≡ AnError.NoMemory) result.at }
 {
     let opens = match client.new_stream(request, streaming_client, streaming_server) {
@@ -316,7 +321,7 @@ where
     })
 }
 
-/// The request that opens a stream, without a payload.
+/// Makes the request that opens a stream, without a payload.
 fn bare_request(alloc: Global, service: &str, stream: &str, context: CallContext) -> Result<Request>
     ensures ok { IfOk result (λ request. request ≡ asks_for service.now stream.now context []) }
     ensures only_memory { IfErr result (λ e. e ≡ AnError.NoMemory) }

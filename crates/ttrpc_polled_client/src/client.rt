@@ -29,8 +29,7 @@ use ttrpc_secure::{
     OutboundTransform, Plain,
 };
 
-/// A client of one connection. Its clones share the connection, which ends with the last of them, of its calls and of its
-/// streams.
+/// A client of one connection. Its clones share the connection, which ends with the last of its clones, calls and streams.
 #[derive(Drop)]
 pub struct Client<R: Timed, O: OutboundTransform + Drop, I: InboundTransform + Drop> {
     rt: R,
@@ -38,15 +37,17 @@ pub struct Client<R: Timed, O: OutboundTransform + Drop, I: InboundTransform + D
 }
 
 impl<R: Timed> Client<R, Plain, Plain> {
-    /// A client of the connection of this socket, and the future of the connection, which is to be polled beside the client's
-    /// calls. A fault of the system is `Nix`.
+    /// Makes a client of the connection of this socket, and the future of the connection, which is to be polled beside the client's calls.
+    /// A fault of the system is `Nix`.
     pub fn new(
         rt: R,
         handle: &Handle,
         socket: Socket,
     ) -> Result<(Client<R, Plain, Plain>, TcpConnection<R, Plain, Plain>)>
-        ensures shared { IfOk result (λ made. arc_value made.1.link.shared ≡ arc_value (arc_value made.0.line).shared) }
-        ensures known { IfOk result (λ made. facts_of (arc_value made.0.line).connection_data.entries ≡ []) }
+        ensures shared { IfOk result
+            (λ made. arc_value made.1.link.shared ≡ arc_value (arc_value made.0.line).shared) }
+        ensures known { IfOk result
+            (λ made. facts_of (arc_value made.0.line).connection_data.entries ≡ []) }
         ensures err { IfErr result IsNotMade }
     {
         let alloc = rt.alloc();
@@ -55,14 +56,15 @@ impl<R: Timed> Client<R, Plain, Plain> {
         Client::over(rt, handle, reader, writer, output)
     }
 
-    /// The same, with the future of the connection polled by what is there for that. Where it can't be polled, there is no client.
+    /// Makes a client as `new` does, and has `tasks` poll the future of its connection. If the future can't be polled, there is no client.
     pub fn spawned<P: Spawns<TcpConnection<R, Plain, Plain>>>(
         rt: R,
         handle: &Handle,
         socket: Socket,
         tasks: &P,
     ) -> Result<Client<R, Plain, Plain>>
-        ensures known { IfOk result (λ client. facts_of (arc_value client.line).connection_data.entries ≡ []) }
+        ensures known { IfOk result
+            (λ client. facts_of (arc_value client.line).connection_data.entries ≡ []) }
         ensures err { IfErr result IsNotMade }
     {
         let (client, connection) = Client::new(rt, handle, socket)?;
@@ -70,8 +72,8 @@ impl<R: Timed> Client<R, Plain, Plain> {
         Ok(client)
     }
 
-    /// Connects to an address, `tcp://IP:PORT`. Whether each write goes out at once is `nodelay`. An address that names no
-    /// place of TCP is `Others`, and a fault of the system `Nix`.
+    /// Connects to an address, `tcp://IP:PORT`. With `nodelay`, each write goes out at once. The error is `Others` if the address names no
+    /// place of TCP, and `Nix` if the system reports a fault.
     pub fn connect(
         rt: R,
         handle: &Handle,
@@ -80,7 +82,8 @@ impl<R: Timed> Client<R, Plain, Plain> {
     ) -> Result<ClientConnect<R>>
     where
         R: Net,
-        ensures ok { IfOk result (λ connect. RefusesAddress sockaddr.now connect.connecting.state × (connect.connecting.nodelay ≡ nodelay)) }
+        ensures ok { IfOk result (λ connect. RefusesAddress sockaddr.now connect.connecting.state
+            × (connect.connecting.nodelay ≡ nodelay)) }
         ensures err { IfErr result (λ e. e ≡ AnError.NoMemory) }
     {
         let connecting = Socket::connect(&rt, rt.alloc(), handle.reactor(), sockaddr, nodelay);
@@ -89,8 +92,8 @@ impl<R: Timed> Client<R, Plain, Plain> {
 }
 
 impl<R: Timed, O: OutboundTransform + Drop, I: InboundTransform + Drop> Client<R, O, I> {
-    /// The same, once the hook has looked at the socket, with the halves that it gave. What the hook refuses is `Others`:
-    /// `client connect hook failed: ` and what its error prints.
+    /// Makes a client as `new` does, after the hook has looked at the socket, with the halves that the hook gave. A refusal by the hook is
+    /// `Others`: `client connect hook failed: ` and the text that its error prints.
     pub fn with_hook<H>(
         rt: R,
         handle: &Handle,
@@ -99,9 +102,14 @@ impl<R: Timed, O: OutboundTransform + Drop, I: InboundTransform + Drop> Client<R
     ) -> Result<(Client<R, O, I>, TcpConnection<R, O, I>)>
     where
         H: ConnectHook<Socket, Outbound = O, Inbound = I>,
-        ensures shared { IfOk result (λ made. arc_value made.1.link.shared ≡ arc_value (arc_value made.0.line).shared) }
-        ensures known { IfOk result (λ made. (output : AnOutput O I) × H.gives hook.now socket (Ok output) × (facts_of (arc_value made.0.line).connection_data.entries ≡ facts_of output.connection_data.entries)) }
-        ensures err { IfErr result (λ e. IsRefusedByHook (λ why. H.gives hook.now socket (Err why)) e ⊎ IsNotMade e) }
+        ensures shared { IfOk result
+            (λ made. arc_value made.1.link.shared ≡ arc_value (arc_value made.0.line).shared) }
+        ensures known { IfOk result
+            (λ made. (output : AnOutput O I) × H.gives hook.now socket (Ok output)
+            × (facts_of (arc_value made.0.line).connection_data.entries
+            ≡ facts_of output.connection_data.entries)) }
+        ensures err { IfErr result
+            (λ e. IsRefusedByHook (λ why. H.gives hook.now socket (Err why)) e ⊎ IsNotMade e) }
     {
         let alloc = rt.alloc();
         let output = match hook.on_connect(alloc, &socket) {
@@ -112,7 +120,7 @@ impl<R: Timed, O: OutboundTransform + Drop, I: InboundTransform + Drop> Client<R
         Client::over(rt, handle, reader, writer, output)
     }
 
-    /// The same over any reader and writer, with what a hook gave.
+    /// Makes a client as `new` does, over any reader and writer, with a hook's output.
     pub fn over<S: AsyncRead, W: AsyncWrite>(
         rt: R,
         handle: &Handle,
@@ -120,7 +128,8 @@ impl<R: Timed, O: OutboundTransform + Drop, I: InboundTransform + Drop> Client<R
         writer: W,
         output: HookOutput<O, I>,
     ) -> Result<(Client<R, O, I>, ClientConnection<R, S, W, O, I>)>
-        ensures ok { IfOk result (λ made. IsMadeOver reader writer (facts_of output.connection_data.entries) (arc_value made.0.line) made.1.link) }
+        ensures ok { IfOk result (λ made. IsMadeOver reader writer
+            (facts_of output.connection_data.entries) (arc_value made.0.line) made.1.link) }
         ensures err { IfErr result IsNotMade }
     {
         let alloc = rt.alloc();
@@ -130,7 +139,7 @@ impl<R: Timed, O: OutboundTransform + Drop, I: InboundTransform + Drop> Client<R
             inbound,
         } = output;
         let context = ConnectionContext::of_halves(alloc, outbound, inbound);
-        let core = ClientCore::new(alloc, ClientKind::Async, context);
+        let core = ClientCore::new(alloc, ClientKind::Async, context)?;
         let shared = Arc::new(alloc, ClientShared::new(alloc, core))?;
         let link = Link::new(
             rt.clone()?,
@@ -150,19 +159,19 @@ impl<R: Timed, O: OutboundTransform + Drop, I: InboundTransform + Drop> Client<R
         Ok((client, ClientConnection::new(link)))
     }
 
-    /// What is known of the connection, as its hook told it.
+    /// Returns the data of the connection, as its hook reported it.
     pub fn connection_data(&self) -> &ConnectionData
         ensures { result.now ≡ (arc_value self.now.line).connection_data }
     {
         &self.line.connection_data
     }
 
-    /// The allocator of its calls.
+    /// Returns the allocator of the client's calls.
     pub fn alloc(&self) -> Global {
         self.rt.alloc()
     }
 
-    /// Another client of the same connection.
+    /// Makes another client of the same connection.
     pub fn try_clone(&self) -> Result<Client<R, O, I>>
         ensures ok { IfOk result (λ client. arc_value client.line ≡ arc_value self.now.line) }
         ensures err { IfErr result (λ e. e ≡ AnError.NoMemory) }
@@ -173,11 +182,12 @@ impl<R: Timed, O: OutboundTransform + Drop, I: InboundTransform + Drop> Client<R
         })
     }
 
-    /// A call, which is made as it is first polled. It is ready with the response, or with why there is none: the status of one
-    /// whose code isn't 0 (`RpcStatus`), a refusal of the request, its deadline (`Others`), or what broke the connection. The
-    /// request's `timeout_nano`, in nanoseconds, is counted from here on; 0 is no limit.
+    /// Returns a call, which is made when it is first polled. The call is ready with the response, or with an error. The error is the
+    /// response's status if its code isn't 0 (`RpcStatus`), a refusal of the request, its deadline (`Others`), or the error that broke the
+    /// connection. The request's `timeout_nano`, in nanoseconds, counts from here on; 0 is no limit.
     pub fn request(&self, req: Request) -> Result<ClientRequest<O, I>>
-        ensures ok { IfOk result (λ call. (arc_value call.line ≡ arc_value self.now.line) × ((now : ℕ) × (call.asked ≡ Asked.Asks req now))) }
+        ensures ok { IfOk result (λ call. (arc_value call.line ≡ arc_value self.now.line)
+            × ((now : ℕ) × (call.asked ≡ Asked.Asks req now))) }
         ensures err { IfErr result IsNotMade }
     {
         let now = moment(&self.rt)?;
@@ -185,17 +195,18 @@ impl<R: Timed, O: OutboundTransform + Drop, I: InboundTransform + Drop> Client<R
         Ok(ClientRequest::new(self.alloc(), line, Asked::Asks(req, now)))
     }
 
-    /// A stream, which is opened as this is first polled, to send items, to receive them, or both. Where it sends, the request
-    /// has no payload; else its payload is the one item.
+    /// Returns a stream, which is opened when this future is first polled, to send items, to receive them, or both. If the stream sends,
+    /// the request has no payload; otherwise its payload is the one item.
     pub fn new_stream(
         &self,
         req: Request,
         streaming_client: bool,
         streaming_server: bool,
     ) -> Result<ClientNewStream<O, I>>
-        ensures ok { IfOk result (λ stream. IsSomeAnd stream.prepared (λ p.
-            (p.opening ≡ record { request = req; streaming_client = streaming_client; streaming_server = streaming_server })
-            × (arc_value p.sends ≡ arc_value self.now.line) × (arc_value p.receives ≡ arc_value self.now.line))) }
+        ensures ok { IfOk result (λ stream. IsSomeAnd stream.prepared (λ p. (p.opening
+            ≡ record { request = req; streaming_client = streaming_client; streaming_server = streaming_server })
+            × (arc_value p.sends ≡ arc_value self.now.line)
+            × (arc_value p.receives ≡ arc_value self.now.line))) }
         ensures err { IfErr result (λ e. e ≡ AnError.NoMemory) }
     {
         let prepared = Prepared {

@@ -24,7 +24,7 @@ pub struct ClientConnect<R: Timed> {
 }
 
 impl<R: Timed> ClientConnect<R> {
-    /// Over the socket that is being connected.
+    /// Makes the future over the socket that is being connected.
     pub(crate) fn new(rt: R, handle: &Handle, connecting: SocketConnect) -> Result<Self>
         ensures ok { IfOk result (λ connect. connect.connecting ≡ connecting) }
         ensures err { IfErr result (λ e. e ≡ AnError.NoMemory) }
@@ -57,7 +57,7 @@ impl<R: Timed> Future for ClientConnect<R> {
 }
 
 impl<R: Timed> ClientConnect<R> {
-    /// The client of this socket.
+    /// Makes the client of this socket.
     fn client_of(
         &self,
         socket: Socket,
@@ -68,10 +68,10 @@ impl<R: Timed> ClientConnect<R> {
     }
 }
 
-/// What polls the futures of connections. A program whose tasks are an enum implements it for its set.
+/// A runner that polls the futures of connections. A program with an enum of tasks implements this trait for its set.
 pub trait Spawns<C: Future> {
-    /// Polls it from now on. An error is want of memory, which also tells that nothing is polled any more, or the system's; the
-    /// future is dropped then.
+    /// Polls the future from now on. The error is want of memory, or the system's. Want of memory may also mean that nothing is polled any
+    /// more. After an error the future is dropped.
     fn spawn(&self, connection: C) -> Result<()>
         requires { C.can_poll connection }
         ensures { IfErr result IsNotMade };

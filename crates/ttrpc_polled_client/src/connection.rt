@@ -11,13 +11,13 @@ use tokio::net::OwnedWriteHalf;
 use ttrpc_polled::{Link, SocketReader, Step};
 use ttrpc_secure::{InboundTransform, OutboundTransform};
 
-/// How often one poll turns at most, before it lets other tasks run.
+/// The most turns of one poll, before it lets other tasks run.
 const TURNS: u8 = 64;
 
-/// The future of a client's connection: while it is polled, calls and streams go on. It is ready once the connection is
-/// over. As it is dropped the connection fails, so that nobody waits for it.
+/// The future of a client's connection: while it is polled, calls and streams go on. It is ready once the connection is over. If it is
+/// dropped, the connection fails, so that no task waits for it.
 ///
-/// A poll first tells the core the moment, if a call has expired by then. It hands on at most one piece and goes on for some 100
+/// A poll first reports the moment to the core, if a call has expired by then. It hands on at most one piece and goes on for some 100
 /// microseconds; then it lets other tasks run.
 pub struct ClientConnection<
     R: Clock + AllocGlobal + Drop,
@@ -40,7 +40,7 @@ impl<
     O: OutboundTransform + Drop,
     I: InboundTransform + Drop,
 > ClientConnection<R, S, W, O, I> {
-    /// Over this link.
+    /// Makes the future over this link.
     pub(crate) fn new(link: Link<R, S, W, ClientShared<O, I>>) -> Self
         ensures { result.link ≡ link }
     {
@@ -78,8 +78,8 @@ impl<
                         return cx.yield_now();
                     }
                 }
-                // Those who waited for what was lent come first, so that more goes out by one write. An event loop may take
-                // them in behind whoever yielded meanwhile, so this gives way twice.
+                // The tasks that waited for the lent bytes come first, so that more goes out by one write. An event loop may take them in
+                // after the tasks that yielded meanwhile, so this gives way twice.
                 Step::Gathered => {
                     self.gives_way = true;
                     return cx.yield_now();

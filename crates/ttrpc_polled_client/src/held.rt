@@ -1,4 +1,4 @@
-//! What stands under the lock of a client's connection.
+//! The state under the lock of a client's connection.
 ghost use Rattle.std.specs.Prelude.{◌≡◌, ◌⊎◌, [], Err};
 ghost use Rattle.futures.specs.Poll.{IfReady, OnPending};
 ghost use Rattle.futures.specs.Task.{Covers, Keeps};
@@ -25,7 +25,7 @@ use ttrpc_proto::{Error, Response, Result};
 use ttrpc_secure::{InboundTransform, OutboundTransform};
 use ttrpc_wire::Blob;
 
-/// The core of a client, and the wakers of those who wait for what it tells.
+/// The core of a client, and the wakers of the tasks that wait for it.
 #[derive(Drop)]
 pub struct ClientHeld<O, I> {
     pub core: ClientCore<O, I>,
@@ -38,7 +38,7 @@ pub struct ClientHeld<O, I> {
 }
 
 impl<O: OutboundTransform + Drop, I: InboundTransform + Drop> ClientHeld<O, I> {
-    /// This core, for which nobody waits.
+    /// Makes the state of this core, for which no task waits.
     pub fn new(alloc: Global, core: ClientCore<O, I>) -> Self
         ensures { result.core ≡ core }
     {
@@ -53,14 +53,15 @@ impl<O: OutboundTransform + Drop, I: InboundTransform + Drop> ClientHeld<O, I> {
         }
     }
 
-    /// Steps a call, which then waits at this source if there is no room for its request, or no outcome yet.
+    /// Steps a call. If there is no room for its request, or no outcome yet, the call waits at this source.
     pub fn poll_call(
         &mut self,
         asked: &mut Asked,
         came: &Source,
         cx: &mut Context<'_>,
     ) -> Poll<Result<Response>>
-        ensures polls { Polls is_new WaitsForRoom (IsStep O.OutboundTransform) self.old.core asked.old result asked.new self.new.core
+        ensures polls { Polls is_new WaitsForRoom
+            (IsStep O.OutboundTransform) self.old.core asked.old result asked.new self.new.core
             ⊎ IsOverdue O.OutboundTransform self.old.core asked.old result asked.new self.new.core }
         ensures registered { OnPending result (Covers cx.new (λ s. s ≡ came.now.id)) }
         ensures kept { Keeps cx.old cx.new }
@@ -82,15 +83,18 @@ impl<O: OutboundTransform + Drop, I: InboundTransform + Drop> ClientHeld<O, I> {
         }
     }
 
-    /// A call that found no room waits for some, unless its deadline has passed.
+    /// Makes a call that found no room wait for some, unless its deadline has passed.
     fn wait_for_room(
         &mut self,
         asked: &mut Asked,
         came: &Source,
         cx: &mut Context<'_>,
     ) -> Poll<Result<Response>>
+        // A pending call waits for room. A ready one is done, with the error of a passed deadline, or with `NoMemory` in its place.
         ensures waits { OnPending result (WaitsForRoom asked.old asked.new) }
-        ensures expired { IfReady result (λ given. (asked.new ≡ Asked.Done) × ((e : AnError) × (given ≡ Err e) × IsTold expired_error e)) }
+        ensures expired { IfReady result (λ given. (asked.new ≡ Asked.Done)
+            × ((e : AnError) × (given ≡ Err e) × IsTold expired_error e)) }
+        // The core is as it was. A pending poll has registered with `came`, and earlier registrations are kept.
         ensures same { self.new.core ≡ self.old.core }
         ensures registered { OnPending result (Covers cx.new (λ s. s ≡ came.now.id)) }
         ensures kept { Keeps cx.old cx.new }
@@ -106,7 +110,7 @@ impl<O: OutboundTransform + Drop, I: InboundTransform + Drop> ClientHeld<O, I> {
         self.room.wait(place, came, cx)
     }
 
-    /// Opens a stream. If there is no room for its request, the caller waits at this place, which is then given, and at this source.
+    /// Opens a stream. If there is no room for its request, the caller waits at this source, at a place that `place` then has.
     pub fn poll_open(
         &mut self,
         opening: &Opening,
@@ -114,8 +118,12 @@ impl<O: OutboundTransform + Drop, I: InboundTransform + Drop> ClientHeld<O, I> {
         came: &Source,
         cx: &mut Context<'_>,
     ) -> Poll<Result<StreamId>>
-        ensures opened { IfReady result (λ opened. Opens O.OutboundTransform self.old.core opening.now.request opening.now.streaming_client opening.now.streaming_server opened self.new.core) }
-        ensures waits { OnPending result (Opens O.OutboundTransform self.old.core opening.now.request opening.now.streaming_client opening.now.streaming_server (Err AnError.NoRoom) self.new.core) }
+        ensures opened { IfReady result
+            (λ opened. Opens O.OutboundTransform self.old.core opening.now.request
+            opening.now.streaming_client opening.now.streaming_server opened self.new.core) }
+        ensures waits { OnPending result (Opens O.OutboundTransform self.old.core
+            opening.now.request opening.now.streaming_client opening.now.streaming_server
+            (Err AnError.NoRoom) self.new.core) }
         ensures registered { OnPending result (Covers cx.new (λ s. s ≡ came.now.id)) }
         ensures kept { Keeps cx.old cx.new }
     {
@@ -137,7 +145,8 @@ impl<O: OutboundTransform + Drop, I: InboundTransform + Drop> ClientHeld<O, I> {
         came: &Source,
         cx: &mut Context<'_>,
     ) -> Poll<Result<()>>
-        ensures polls { Polls is_unsent StallsSending (IsSending O.OutboundTransform id) self.old.core sending.old result sending.new self.new.core }
+        ensures polls { Polls is_unsent StallsSending (IsSending O.OutboundTransform id)
+            self.old.core sending.old result sending.new self.new.core }
         ensures registered { OnPending result (Covers cx.new (λ s. s ≡ came.now.id)) }
         ensures kept { Keeps cx.old cx.new }
     {
@@ -161,7 +170,7 @@ impl<O: OutboundTransform + Drop, I: InboundTransform + Drop> ClientHeld<O, I> {
         self.streams.poll_receiving_on(alloc, core, id, came, cx)
     }
 
-    /// Forgets a call whose future is dropped.
+    /// Forgets a call after its future was dropped.
     pub fn drop_call(&mut self, id: CallId)
         ensures { Forgets O.SEALS self.old.core id self.new.core }
     {
@@ -170,7 +179,7 @@ impl<O: OutboundTransform + Drop, I: InboundTransform + Drop> ClientHeld<O, I> {
         self.wake_if_failed();
     }
 
-    /// Nobody receives from a stream any more.
+    /// Reports that no task receives from a stream any more.
     pub fn drop_receiver(&mut self, id: StreamId)
         ensures { DropsReceiver self.old.core id self.new.core }
     {
@@ -178,22 +187,23 @@ impl<O: OutboundTransform + Drop, I: InboundTransform + Drop> ClientHeld<O, I> {
         self.streams.wake_receiver(u64::from(id));
     }
 
-    /// Nobody sends on a stream any more.
+    /// Reports that no task sends on a stream any more.
     pub fn drop_sender(&mut self, id: StreamId)
         ensures { DropsSender self.old.core id self.new.core }
     {
         self.core.drop_sender(id);
     }
 
-    /// Nobody is left who would call, or nobody who would answer: the connection fails, if it hasn't.
+    /// Fails the connection, if it hasn't failed: no task is left that would call, or none that would answer.
     pub fn abandon(&mut self)
-        ensures { self.new.core ≡ record self.old.core { connection = failing self.old.core.connection (AFailure.Told AnError.LocalClosed) } }
+        ensures { self.new.core
+            ≡ record self.old.core { connection = failing self.old.core.connection (AFailure.Told AnError.LocalClosed) } }
     {
         self.core.fail(Error::LocalClosed);
         self.wake_all();
     }
 
-    /// Wakes everybody, once the connection has failed.
+    /// Wakes all tasks, if the connection has failed.
     fn wake_if_failed(&mut self)
         ensures { self.new.core ≡ self.old.core }
     {
@@ -210,7 +220,7 @@ impl<O: OutboundTransform + Drop, I: InboundTransform + Drop> ClientHeld<O, I> {
         self.room.wake_all();
     }
 
-    /// A moment has come: the callers whose deadlines have passed while they wait for room are woken, and with them all who wait so.
+    /// Notes that a moment has come. If the deadline of a caller that waits for room has passed, wakes all callers that wait for room.
     fn wake_overdue(&mut self, now: u64)
         ensures { self.new.core ≡ self.old.core }
     {
@@ -222,16 +232,18 @@ impl<O: OutboundTransform + Drop, I: InboundTransform + Drop> ClientHeld<O, I> {
 
     /// Wakes the callers of all calls that have ended.
     fn wake_ended(&mut self)
-        ensures { self.new.core ≡ record self.old.core { state = record self.old.core.state { ended = [] } } }
+        ensures { self.new.core
+            ≡ record self.old.core { state = record self.old.core.state { ended = [] } } }
     {
         while let Some(id) = self.core.next_ended() {
             self.callers.wake(u64::from(id));
         }
     }
 
-    /// Wakes those who receive from streams for which something came.
+    /// Wakes the tasks that receive from streams for which something came.
     fn wake_heard(&mut self)
-        ensures { self.new.core ≡ record self.old.core { state = record self.old.core.state { heard = [] } } }
+        ensures { self.new.core
+            ≡ record self.old.core { state = record self.old.core.state { heard = [] } } }
     {
         while let Some(id) = self.core.next_heard() {
             self.streams.wake_receiver(u64::from(id));
@@ -245,19 +257,22 @@ impl<O: OutboundTransform + Drop, I: InboundTransform + Drop> Held for ClientHel
     ghost use Rattle.ttrpc_polled.specs.Waiting.{sooner};
     ghost use Rattle.ttrpc_polled_client.specs.Held.{Breaks, EndsInput, ExpiresAt, LendsAndReports, TakesPiece, TicksAndTells};
 
-    ghost takes = { λ old piece _ count new. TakesPiece O.OutboundTransform I.InboundTransform old.core piece count new.core };
+    ghost takes = { λ old piece _ count new. TakesPiece O.OutboundTransform I.InboundTransform
+        old.core piece count new.core };
 
     ghost ends = { λ old new. EndsInput old.core new.core };
 
     ghost breaks = { λ old _ new. Breaks old.core new.core };
 
-    ghost lends = { λ old before count after new. LendsAndReports old.core before count after new.core };
+    ghost lends = { λ old before count after new. LendsAndReports old.core
+        before count after new.core };
 
     ghost lendable = { λ held. lendable held.core.connection };
 
     ghost ticks = { λ old now new. TicksAndTells O.SEALS old.core now new.core };
 
-    ghost expires = { λ held at. (soonest : Option ℕ) × ExpiresAt held.core soonest × (at ≡ sooner soonest held.room.soonest) };
+    ghost expires = { λ held at. (soonest : Option ℕ) × ExpiresAt held.core soonest
+        × (at ≡ sooner soonest held.room.soonest) };
 
     ghost failed = { λ held. is_some held.core.connection.failure };
 

@@ -1,4 +1,4 @@
-//! The client whose calls and streams are polled.
+//! The client with polled calls and streams.
 #![tactic(auto)]
 
 mod asked;

@@ -1,4 +1,4 @@
-//! What a client's clones, its calls and its streams hold of the connection.
+//! The share of a connection that a client's clones, its calls and its streams hold.
 ghost use Rattle.std.specs.Prelude.{◌≡◌};
 ghost use Rattle.std.specs.Arc.{arc_value};
 ghost use Rattle.futures.specs.Poll.{OnPending};
@@ -17,16 +17,17 @@ use ttrpc_proto::{Response, Result};
 use ttrpc_secure::{ConnectionData, InboundTransform, OutboundTransform};
 use ttrpc_wire::Blob;
 
-/// What a client's clones, its calls and its streams hold of the connection, which ends with the last of them.
+/// The share of the connection that a client's clones, its calls and its streams hold. The connection ends with the last of them.
 pub struct ClientLine<O: OutboundTransform + Drop, I: InboundTransform + Drop> {
     pub shared: Arc<ClientShared<O, I>, Global>,
     pub connection_data: ConnectionData,
 }
 
 impl<O: OutboundTransform + Drop, I: InboundTransform + Drop> ClientLine<O, I> {
-    /// Steps a call. Pending: the caller is woken once it has its outcome.
+    /// Steps a call. If pending, the caller is woken once it has its outcome.
     pub fn poll_call(&self, asked: &mut Asked, cx: &mut Context<'_>) -> Poll<Result<Response>>
-        ensures registered { OnPending result (Covers cx.new (λ s. s ≡ (arc_value self.now.shared).came.id)) }
+        ensures registered { OnPending result
+            (Covers cx.new (λ s. s ≡ (arc_value self.now.shared).came.id)) }
         ensures kept { Keeps cx.old cx.new }
     {
         let Some(mut guard) = lock(&self.shared.held) else {
@@ -44,15 +45,16 @@ impl<O: OutboundTransform + Drop, I: InboundTransform + Drop> ClientLine<O, I> {
         polled
     }
 
-    /// Opens a stream. Pending: there is no room for its request, and the caller, whose place is then given, is woken once bytes have
-    /// left.
+    /// Opens a stream. If pending, there is no room for its request. The caller, at the place that `place` then has, is woken once bytes
+    /// have left.
     pub fn poll_open(
         &self,
         opening: &Opening,
         place: &mut Option<u64>,
         cx: &mut Context<'_>,
     ) -> Poll<Result<StreamId>>
-        ensures registered { OnPending result (Covers cx.new (λ s. s ≡ (arc_value self.now.shared).came.id)) }
+        ensures registered { OnPending result
+            (Covers cx.new (λ s. s ≡ (arc_value self.now.shared).came.id)) }
         ensures kept { Keeps cx.old cx.new }
     {
         let Some(mut guard) = lock(&self.shared.held) else {
@@ -66,7 +68,7 @@ impl<O: OutboundTransform + Drop, I: InboundTransform + Drop> ClientLine<O, I> {
         polled
     }
 
-    /// Forgets a call whose future is dropped.
+    /// Forgets a call after its future was dropped.
     pub fn drop_call(&self, id: CallId) {
         if let Some(mut guard) = lock(&self.shared.held) {
             let held = &mut *guard;

@@ -1,7 +1,7 @@
-//! The macros of clients whose calls are polled.
+//! The macros of clients with polled calls.
 
-/// Makes the call of a method by `self.client`, with the value that is lent as `$req`: a `ClientCall`, which takes the payload
-/// of its response into the value `$cres`. The context is used up.
+/// Makes the call of a method by `self.client`, with the value that is lent as `$req`. The result is a `ClientCall`, which takes the
+/// payload of its response into the value `$cres`. The context is used up.
 #[macro_export]
 macro_rules! async_client_request {
     ($self:ident, $ctx:ident, $req:ident, $server:expr, $method:expr, $cres:ident) => {

@@ -28,7 +28,8 @@ impl Opening {
         alloc: Global,
         core: &mut ClientCore<O, I>,
     ) -> Result<StreamId>
-        ensures { Opens O.OutboundTransform core.old self.now.request self.now.streaming_client self.now.streaming_server result core.new }
+        ensures { Opens O.OutboundTransform core.old self.now.request self.now.streaming_client
+            self.now.streaming_server result core.new }
     {
         core.new_stream(
             alloc,
@@ -39,7 +40,7 @@ impl Opening {
     }
 }
 
-/// What a stream is opened with: its request, and a share of the line for each of its halves.
+/// The parts with which a stream is opened: its request, and a share of the line for each of its halves.
 #[derive(Drop)]
 pub(crate) struct Prepared<O: OutboundTransform + Drop, I: InboundTransform + Drop> {
     pub(crate) opening: Opening,
@@ -47,7 +48,7 @@ pub(crate) struct Prepared<O: OutboundTransform + Drop, I: InboundTransform + Dr
     pub(crate) receives: Arc<ClientLine<O, I>, Global>,
 }
 
-/// A stream that is opened as this is first polled. `LocalClosed` where it was opened before.
+/// A stream that is opened when this future is first polled. The result is `LocalClosed` if the stream was opened before.
 #[derive(Drop)]
 pub struct ClientNewStream<O: OutboundTransform + Drop, I: InboundTransform + Drop> {
     alloc: Global,
@@ -56,7 +57,7 @@ pub struct ClientNewStream<O: OutboundTransform + Drop, I: InboundTransform + Dr
 }
 
 impl<O: OutboundTransform + Drop, I: InboundTransform + Drop> ClientNewStream<O, I> {
-    /// A stream that is there to be opened.
+    /// Makes the future of a stream that is to be opened.
     pub(crate) fn new(alloc: Global, prepared: Prepared<O, I>) -> Self
         ensures { result.prepared ≡ Some prepared }
     {
@@ -67,8 +68,8 @@ impl<O: OutboundTransform + Drop, I: InboundTransform + Drop> ClientNewStream<O,
         }
     }
 
-    /// Makes the one core call, `new_stream`, on a core that is lent, and gives the stream. `LocalClosed` where it was opened
-    /// before.
+    /// Makes the one core call, `new_stream`, on a core that is lent, and returns the stream. The error is `LocalClosed` if the stream was
+    /// opened before.
     pub fn step(&mut self, core: &mut ClientCore<O, I>) -> Result<StreamInner<ClientLine<O, I>>>
         ensures step { IsNewStream O.OutboundTransform core.old self.old.prepared result core.new }
         ensures over { self.new.prepared ≡ None }
@@ -81,7 +82,7 @@ impl<O: OutboundTransform + Drop, I: InboundTransform + Drop> ClientNewStream<O,
     }
 }
 
-/// The stream of this id, with its shares of the line, or why it isn't open.
+/// Makes the stream of this id, with its shares of the line, or returns the reason why it isn't open.
 fn stream_of<O: OutboundTransform + Drop, I: InboundTransform + Drop>(
     alloc: Global,
     prepared: Prepared<O, I>,

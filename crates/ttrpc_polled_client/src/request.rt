@@ -12,7 +12,8 @@ use ttrpc_client::ClientCore;
 use ttrpc_proto::{Response, Result};
 use ttrpc_secure::{InboundTransform, OutboundTransform};
 
-/// A call that waits for its response. It is made as it is first polled; dropped before it is ready it is forgotten.
+/// A call that waits for its response. It is made when it is first polled. If it is dropped before it is ready, it is
+/// forgotten.
 pub struct ClientRequest<O: OutboundTransform + Drop, I: InboundTransform + Drop> {
     alloc: Global,
     line: Arc<ClientLine<O, I>, Global>,
@@ -20,16 +21,18 @@ pub struct ClientRequest<O: OutboundTransform + Drop, I: InboundTransform + Drop
 }
 
 impl<O: OutboundTransform + Drop, I: InboundTransform + Drop> ClientRequest<O, I> {
-    /// A call that is there.
+    /// Makes a call in this state.
     pub(crate) fn new(alloc: Global, line: Arc<ClientLine<O, I>, Global>, asked: Asked) -> Self
         ensures { (result.line ≡ line) × (result.asked ≡ asked) }
     {
         ClientRequest { alloc, line, asked }
     }
 
-    /// Makes the one core call that its state names, on a core that is lent. `None`: there is no outcome yet.
+    /// Makes the one core call that the call's state names, on a core that is lent. Returns `None` if there is no
+    /// outcome yet.
     pub fn step(&mut self, core: &mut ClientCore<O, I>) -> Option<Result<Response>>
-        ensures step { IsStep O.OutboundTransform core.old self.old.asked result self.new.asked core.new }
+        ensures step { IsStep O.OutboundTransform core.old self.old.asked result
+            self.new.asked core.new }
         ensures line { self.new.line ≡ self.old.line }
     {
         self.asked.step(self.alloc, core)

@@ -1,4 +1,4 @@
-//! What a client's callers and its connection's future share.
+//! The state that a client's callers and its connection's future share.
 ghost use Rattle.std.specs.Prelude.{◌≡◌};
 
 use crate::held::ClientHeld;
@@ -9,18 +9,20 @@ use ttrpc_client::ClientCore;
 use ttrpc_polled::Connected;
 use ttrpc_secure::{InboundTransform, OutboundTransform};
 
-/// What a client's callers and its connection's future share. Nobody reads or writes while it has the lock.
+/// The state that a client's callers and its connection's future share. No task reads or writes while it holds the
+/// lock.
 #[derive(Drop)]
 pub struct ClientShared<O, I> {
-    /// Callers wait at it for the end of a call, for what comes for a stream, and for frames that leave.
+    /// The source at which callers wait for the end of a call, for things that come for a stream, and for frames that
+    /// leave.
     pub came: Source,
-    /// The connection's future waits at it for something to write.
+    /// The source at which the connection's future waits for something to write.
     pub asked: Source,
     pub held: Mutex<ClientHeld<O, I>>,
 }
 
 impl<O: OutboundTransform + Drop, I: InboundTransform + Drop> ClientShared<O, I> {
-    /// This core, shared.
+    /// Makes the shared state of this core.
     pub fn new(alloc: Global, core: ClientCore<O, I>) -> Self {
         ClientShared {
             came: Source::new(),

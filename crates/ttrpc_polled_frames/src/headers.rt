@@ -14,8 +14,8 @@ use std::io::{self, ErrorKind};
 use tokio::io::{AsyncRead, AsyncWrite};
 use ttrpc_proto::MessageHeader;
 
-/// The future of a header that is read as `MessageHeader::read_from` does: ten bytes, and none behind them. Where the reader ends
-/// before them, the error is `UnexpectedEof`.
+/// The future that reads a header as `MessageHeader::read_from` does: it reads ten bytes, and none after them. If the
+/// reader ends before them, the error is `UnexpectedEof`.
 #[derive(Drop)]
 pub struct ReadHeader<S> {
     reader: S,
@@ -28,7 +28,7 @@ pub struct ReadHeader<S> {
 impl<S: AsyncRead> ReadHeader<S> {
     ghost use Rattle.ttrpc_polled_frames.specs.Heading.{FillsHeader};
 
-    /// The header that this reader gives next. Takes no memory.
+    /// Returns the future of this reader's next header. Takes no memory.
     pub fn new(reader: S) -> ReadHeader<S>
         ensures { (result.reader ≡ reader) × (result.filled ≡ 0) }
     {
@@ -39,11 +39,14 @@ impl<S: AsyncRead> ReadHeader<S> {
         }
     }
 
-    /// One read of what is left of it.
+    /// Makes one read of the rest of the header.
     fn poll_more(&mut self, cx: &mut Context<'_>) -> Poll<io::Result<usize>>
+        // The bytes that were read follow the others, and are counted. After a count of 0 the reader is at its end, or the header was full.
         ensures fills { FillsHeader S.reads self.old self.new }
         ensures count { self.new.filled ≡ self.old.filled + count_moved result }
-        ensures end { result ≡ Poll.Ready (Ok 0) → self.old.filled < 10 → S.is_at_end self.new.reader }
+        ensures end { result ≡ Poll.Ready (Ok 0) → self.old.filled < 10
+            → S.is_at_end self.new.reader }
+        // An error is the reader's. A pending poll has registered with the reader, and earlier registrations are kept.
         ensures failed { IfReadyErr result (S.fails self.new.reader) }
         ensures registered { OnPending result (Covers cx.new (S.needs self.new.reader)) }
         ensures kept { Keeps cx.old cx.new }
@@ -82,16 +85,17 @@ impl<S: AsyncRead> Future for ReadHeader<S> {
     }
 }
 
-/// The future of a header that is written as `MessageHeader::write_to` does: the ten bytes alone, and then a flush.
+/// The future that writes a header as `MessageHeader::write_to` does: it writes the ten bytes alone, and then flushes.
 #[derive(Drop)]
 pub struct WriteHeader<W> {
     offering: Offering<W, [u8; 10]>,
 }
 
 impl<W: AsyncWrite> WriteHeader<W> {
-    /// This header. Takes no memory.
+    /// Returns the future that writes this header. Takes no memory.
     pub fn new(alloc: Global, writer: W, header: &MessageHeader) -> WriteHeader<W>
-        ensures { (result.offering.writer ≡ writer) × (left_of (λ ten. ten) result.offering ≡ header_bytes header.now) }
+        ensures { (result.offering.writer ≡ writer)
+            × (left_of (λ ten. ten) result.offering ≡ header_bytes header.now) }
     {
         WriteHeader {
             offering: Offering::of_bytes(alloc, writer, header.to_bytes()),
@@ -106,7 +110,8 @@ impl<W: AsyncWrite> Future for WriteHeader<W> {
 
     ghost needs = { λ f source. W.needs f.offering.writer source };
 
-    ghost gives = { λ f r. WillEnd W.writes W.is_flushed (FailsToFlush W.fails W.is_full) f.offering.writer (left_of (λ ten. ten) f.offering) r };
+    ghost gives = { λ f r. WillEnd W.writes W.is_flushed
+        (FailsToFlush W.fails W.is_full) f.offering.writer (left_of (λ ten. ten) f.offering) r };
 
     fn poll(&mut self, cx: &mut Context<'_>) -> Poll<io::Result<()>> {
         self.offering.poll_flushed(cx)

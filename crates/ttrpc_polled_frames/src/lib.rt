@@ -1,5 +1,6 @@
-//! Frames from a reader and to a writer that are polled: the futures that do what the blocking forms do. `taking` has what came of
-//! a frame, `offering` what is left of one; `reads`, `writes` and `headers` are the futures over them.
+//! Frames from a reader and to a writer that are polled. The futures do the same as the blocking forms. `taking` reads
+//! a part of a frame, and `offering` writes a part of one. `reads`, `writes` and `headers` have the futures that use
+//! them.
 #![tactic(auto)]
 
 pub mod headers;

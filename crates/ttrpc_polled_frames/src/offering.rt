@@ -1,4 +1,4 @@
-//! What is left of a frame, on its way to a writer that is polled.
+//! The rest of a frame, on its way to a writer that is polled.
 ghost use Rattle.std.specs.Prelude.{◌≡◌, ℕ, List, [], ◌++◌, drop, IfOk};
 ghost use Rattle.futures.specs.Poll.{OnPending};
 ghost use Rattle.futures.specs.Task.{Covers, Keeps};
@@ -14,15 +14,15 @@ use ttrpc_proto::MessageHeader;
 use ttrpc_proto::framing::writing::PREFIX_PAYLOAD;
 use ttrpc_wire::values::slices::{behind, front};
 
-/// How many writes one poll makes before it lets other tasks go on.
+/// The number of writes of one poll, before it lets other tasks go on.
 const WRITES: u32 = 64;
 
-/// What has bytes to be written.
+/// Something with bytes that are to be written.
 pub trait HasBytes: Drop {
-    // which bytes these are
+    // these bytes
     ghost bytes: { Self → List ℕ };
 
-    /// These bytes.
+    /// Returns these bytes.
     fn bytes(&self) -> &[u8]
         ensures { result.now ≡ bytes self.now };
 }
@@ -51,7 +51,7 @@ impl HasBytes for [u8; 10] {
     }
 }
 
-/// A writer, and what is left of the two parts that are offered to it: what stands behind so many bytes of each.
+/// A writer, and two parts that are offered to it, each from its own position on.
 #[derive(Drop)]
 pub struct Offering<W, P> {
     pub writer: W,
@@ -62,14 +62,16 @@ pub struct Offering<W, P> {
 }
 
 impl<W: AsyncWrite, P: HasBytes> Offering<W, P> {
-    /// A frame: the header as it stands with the first bytes of the payload, of which a page has both, and then the rest.
+    /// Returns an `Offering` of a frame: first the header as it is with the payload's first bytes, in no more than a
+    /// page, and then the rest of the payload.
     pub fn of_frame(
         alloc: Global,
         writer: W,
         header: &MessageHeader,
         payload: P,
     ) -> Result<Offering<W, P>, AllocError>
-        ensures { IfOk result (λ f. (f.writer ≡ writer) × (left_of P.bytes f ≡ header_bytes header.now ++ P.bytes payload)) }
+        ensures { IfOk result (λ f. (f.writer ≡ writer)
+            × (left_of P.bytes f ≡ header_bytes header.now ++ P.bytes payload)) }
     {
         let first = first_of(alloc, header, front(payload.bytes(), PREFIX_PAYLOAD))?;
         Ok(Offering {
@@ -81,7 +83,7 @@ impl<W: AsyncWrite, P: HasBytes> Offering<W, P> {
         })
     }
 
-    /// These bytes alone. Takes no memory.
+    /// Returns an `Offering` of these bytes alone. Takes no memory.
     pub fn of_bytes(alloc: Global, writer: W, payload: P) -> Offering<W, P>
         ensures { (result.writer ≡ writer) × (left_of P.bytes result ≡ P.bytes payload) }
     {
@@ -94,12 +96,14 @@ impl<W: AsyncWrite, P: HasBytes> Offering<W, P> {
         }
     }
 
-    /// Offers what is left. Ready: the writer took all of it, or failed, or took nothing.
+    /// Offers the rest. Ready when the writer took all of it, or failed, or took nothing.
     pub fn poll_offer(&mut self, cx: &mut Context<'_>) -> Poll<io::Result<()>>
-        // The writer took all of it, or a front, and why no more is told.
-        ensures writes { TakesWritten W.writes self.old.writer self.new.writer (left_of P.bytes self.old) (left_of P.bytes self.new) }
+        // The writer took all of the rest, or a front, and the error is the reason why it took no more.
+        ensures writes { TakesWritten W.writes self.old.writer self.new.writer
+            (left_of P.bytes self.old) (left_of P.bytes self.new) }
         ensures all { OnReadyOk result (left_of P.bytes self.new ≡ []) }
-        ensures failed { IfReadyErr result (BreaksOff W.fails W.is_full (left_of P.bytes self.new) self.new.writer) }
+        ensures failed { IfReadyErr result
+            (BreaksOff W.fails W.is_full (left_of P.bytes self.new) self.new.writer) }
         // A pending poll has registered with the writer.
         ensures registered { OnPending result (Covers cx.new (W.needs self.new.writer)) }
         ensures kept { Keeps cx.old cx.new }
@@ -116,12 +120,15 @@ impl<W: AsyncWrite, P: HasBytes> Offering<W, P> {
         )
     }
 
-    /// Offers what is left, and then flushes. Ready: both are done, or the writer failed, or took nothing.
+    /// Offers the rest, and then flushes. Ready when both are done, or when the writer failed or took nothing.
     pub fn poll_flushed(&mut self, cx: &mut Context<'_>) -> Poll<io::Result<()>>
-        // The writer took all of it and was flushed, or what kept it from that is told.
-        ensures writes { TakesWritten W.writes self.old.writer self.new.writer (left_of P.bytes self.old) (left_of P.bytes self.new) }
-        ensures all { OnReadyOk result ((left_of P.bytes self.new ≡ []) × W.is_flushed self.new.writer) }
-        ensures failed { IfReadyErr result (FailsToFlush W.fails W.is_full (left_of P.bytes self.new) self.new.writer) }
+        // The writer took all of the rest and was flushed, or the error is the reason why not.
+        ensures writes { TakesWritten W.writes self.old.writer self.new.writer
+            (left_of P.bytes self.old) (left_of P.bytes self.new) }
+        ensures all { OnReadyOk result
+            ((left_of P.bytes self.new ≡ []) × W.is_flushed self.new.writer) }
+        ensures failed { IfReadyErr result
+            (FailsToFlush W.fails W.is_full (left_of P.bytes self.new) self.new.writer) }
         // A pending poll has registered with the writer.
         ensures registered { OnPending result (Covers cx.new (W.needs self.new.writer)) }
         ensures kept { Keeps cx.old cx.new }
@@ -133,18 +140,20 @@ impl<W: AsyncWrite, P: HasBytes> Offering<W, P> {
     }
 }
 
-/// Offers what stands behind so many of these bytes, and counts what the writer takes. Ready: it took all of it, or failed, or took
-/// nothing.
+/// Offers the bytes from the position on, and moves the position by the count that the writer takes. Ready when the
+/// writer took all of them, or failed, or took nothing.
 fn poll_behind<W: AsyncWrite>(
     writer: &mut W,
     cx: &mut Context<'_>,
     bytes: &[u8],
     at: &mut usize,
 ) -> Poll<io::Result<()>>
-    // The writer took all of it, or a front, and why no more is told.
-    ensures writes { TakesWritten W.writes writer.old writer.new (drop at.old bytes.now) (drop at.new bytes.now) }
+    // The writer took all of the rest, or a front, and the error is the reason why it took no more.
+    ensures writes { TakesWritten W.writes writer.old writer.new
+        (drop at.old bytes.now) (drop at.new bytes.now) }
     ensures all { OnReadyOk result (drop at.new bytes.now ≡ []) }
-    ensures failed { IfReadyErr result (BreaksOff W.fails W.is_full (drop at.new bytes.now) writer.new) }
+    ensures failed { IfReadyErr result
+        (BreaksOff W.fails W.is_full (drop at.new bytes.now) writer.new) }
     // A pending poll has registered with the writer.
     ensures registered { OnPending result (Covers cx.new (W.needs writer.new)) }
     ensures kept { Keeps cx.old cx.new }
@@ -167,7 +176,7 @@ fn poll_behind<W: AsyncWrite>(
     cx.yield_now()
 }
 
-/// The header, and the first bytes of a payload.
+/// Returns the header and the first bytes of a payload.
 fn first_of(alloc: Global, header: &MessageHeader, payload: &[u8]) -> Result<Vec<u8>, AllocError>
     ensures { IfOk result (λ first. first.items ≡ header_bytes header.now ++ payload.now) }
 {

@@ -1,4 +1,4 @@
-//! The futures that read a frame, by what they tell of it.
+//! The futures that read a frame, by the form of their output.
 ghost use Rattle.std.specs.Prelude.{◌≡◌, Result};
 ghost use Rattle.ttrpc_proto.specs.declared.framing.failure.StreamFailure.{StreamFailure as AFailure};
 ghost use Rattle.ttrpc_proto.specs.declared.framing.reading.Found.{Found as AFound};
@@ -19,28 +19,28 @@ use ttrpc_proto::framing::reading::message_of;
 use ttrpc_proto::{GenMessage, GenMessageError, MessageHeader, Result};
 use ttrpc_wire::Codec;
 
-/// What is told of a frame that was read.
+/// The form of the output after a frame was read.
 pub trait Tells: Drop {
-    /// What it is told as.
+    /// The output.
     type Output;
 
-    // this is told of what was found
+    // this is the output for the found frame or the failure
     ghost tells: { Self.Output → Result AFound AFailure → Type 0 };
 
-    /// Tells what was found.
+    /// Makes the output.
     fn tell(alloc: Global, took: Took) -> Self::Output
         ensures { tells result took };
 }
 
-/// Told as a header and its bytes, as `read_message` does.
+/// The output is a header and its bytes, as `read_message` returns.
 #[derive(Drop)]
 pub struct AsParts;
 
-/// Told as a message, as `GenMessage::read_from` does.
+/// The output is a message, as `GenMessage::read_from` returns.
 #[derive(Drop)]
 pub struct AsMessage;
 
-/// Told as a value, as `Message::read_from` does.
+/// The output is a value, as `Message::read_from` returns.
 #[derive(Drop)]
 pub struct AsValue<C> {
     value: PhantomData<C>,
@@ -88,7 +88,7 @@ pub struct PollRead<S, T> {
 }
 
 impl<S: AsyncRead, T: Tells> PollRead<S, T> {
-    /// The next frame of this reader. Takes no memory before it is polled.
+    /// Returns the future of this reader's next frame. Takes no memory before it is polled.
     pub fn new(alloc: Global, reader: S) -> PollRead<S, T>
         ensures { (result.taking.reader ≡ reader) × (result.taking.decoder ≡ nothing) }
     {
@@ -107,7 +107,8 @@ impl<S: AsyncRead, T: Tells> Future for PollRead<S, T> {
 
     ghost needs = { λ f source. S.needs f.taking.reader source };
 
-    ghost gives = { λ f r. WillTell S.reads S.is_at_end S.fails T.tells f.taking.reader f.taking.decoder r };
+    ghost gives = { λ f r. WillTell S.reads S.is_at_end S.fails T.tells
+        f.taking.reader f.taking.decoder r };
 
     fn poll(&mut self, cx: &mut Context<'_>) -> Poll<T::Output> {
         match self.taking.poll_take(self.alloc, cx) {

@@ -15,21 +15,21 @@ use ttrpc_proto::framing::reading::Found;
 use ttrpc_proto::{DEFAULT_PAGE_SIZE, FrameDecoder};
 use ttrpc_wire::values::slices::front;
 
-/// How many reads one poll makes before it lets other tasks go on.
+/// The number of reads of one poll, before it lets other tasks go on.
 const READS: u32 = 64;
 
-/// A reader, and what has come of the frame that is read from it.
+/// A reader, and the part of a frame that was read from it.
 #[derive(Drop)]
 pub struct Taking<S> {
     pub reader: S,
     pub decoder: FrameDecoder,
 }
 
-/// What was found, or why nothing was.
+/// The frame or the end that was found, or the failure.
 pub type Took = result::Result<Found, StreamFailure>;
 
 impl<S: AsyncRead> Taking<S> {
-    /// Nothing has come yet. Takes no memory.
+    /// Returns a `Taking` that has read nothing yet. Takes no memory.
     pub fn new(alloc: Global, reader: S) -> Taking<S>
         ensures { (result.reader ≡ reader) × (result.decoder ≡ nothing) }
     {
@@ -39,11 +39,14 @@ impl<S: AsyncRead> Taking<S> {
         }
     }
 
-    /// Reads on, and nothing that follows the frame. Ready: what was found, or why nothing was. Room for a body grows as its bytes
-    /// come, and the body of a frame that is too long is thrown away.
+    /// Reads on, and reads nothing that follows the frame. Ready with the result when the frame is whole, or when the
+    /// reader ends or fails, or when memory is refused. Room for a body grows as its bytes come, and the body of a
+    /// frame that is too long is thrown away.
     pub fn poll_take(&mut self, alloc: Global, cx: &mut Context<'_>) -> Poll<Took>
-        ensures took { IfReady result (λ took. Takes S.reads S.is_at_end S.fails self.old.reader self.old.decoder took self.new.reader) }
-        ensures goes_on { OnPending result (Continues S.reads self.old.reader self.old.decoder self.new.reader self.new.decoder) }
+        ensures took { IfReady result (λ took. Takes S.reads S.is_at_end S.fails self.old.reader
+            self.old.decoder took self.new.reader) }
+        ensures goes_on { OnPending result
+            (Continues S.reads self.old.reader self.old.decoder self.new.reader self.new.decoder) }
         ensures registered { OnPending result (Covers cx.new (S.needs self.new.reader)) }
         ensures kept { Keeps cx.old cx.new }
     {
@@ -57,11 +60,17 @@ impl<S: AsyncRead> Taking<S> {
         cx.yield_now()
     }
 
-    /// One read, of no more bytes than are wanted. None: more is wanted.
+    /// Makes one read, of no more bytes than are wanted. Ready with `None` means that more is wanted.
     fn poll_piece(&mut self, alloc: Global, cx: &mut Context<'_>) -> Poll<Option<Took>>
-        ensures took { IfReady result (λ r. IfSome r (λ took. Takes S.reads S.is_at_end S.fails self.old.reader self.old.decoder took self.new.reader)) }
-        ensures none { IfReady result (λ r. IfNone r (Continues S.reads self.old.reader self.old.decoder self.new.reader self.new.decoder)) }
-        ensures goes_on { OnPending result (Continues S.reads self.old.reader self.old.decoder self.new.reader self.new.decoder) }
+        // At `Some` the rest of the frame was read, as far as the reader has it.
+        ensures took { IfReady result (λ r. IfSome r (λ took. Takes S.reads S.is_at_end S.fails
+            self.old.reader self.old.decoder took self.new.reader)) }
+        // At `None`, and if the poll is pending, the frame isn't whole with the bytes that were read.
+        ensures none { IfReady result (λ r. IfNone r
+            (Continues S.reads self.old.reader self.old.decoder self.new.reader self.new.decoder)) }
+        ensures goes_on { OnPending result
+            (Continues S.reads self.old.reader self.old.decoder self.new.reader self.new.decoder) }
+        // A pending poll has registered with the reader, and earlier registrations are kept.
         ensures registered { OnPending result (Covers cx.new (S.needs self.new.reader)) }
         ensures kept { Keeps cx.old cx.new }
     {
@@ -70,20 +79,23 @@ impl<S: AsyncRead> Taking<S> {
         self.poll_into(alloc, cx, &mut page[..wanted])
     }
 
-    /// The same into this room, of some bytes that are wanted.
+    /// Does the same, and reads into this room, which is for some of the wanted bytes.
     fn poll_into(
         &mut self,
         alloc: Global,
         cx: &mut Context<'_>,
         room: &mut [u8],
     ) -> Poll<Option<Took>>
-        // Some bytes have room, and no more than are wanted.
+        // The room is for some bytes, and for no more than are wanted.
         requires some { 0 < length room.old }
         requires wanted { length room.old ≤ wanted self.old.decoder }
-        // As `poll_piece`.
-        ensures took { IfReady result (λ r. IfSome r (λ took. Takes S.reads S.is_at_end S.fails self.old.reader self.old.decoder took self.new.reader)) }
-        ensures none { IfReady result (λ r. IfNone r (Continues S.reads self.old.reader self.old.decoder self.new.reader self.new.decoder)) }
-        ensures goes_on { OnPending result (Continues S.reads self.old.reader self.old.decoder self.new.reader self.new.decoder) }
+        // The result is as that of `poll_piece`.
+        ensures took { IfReady result (λ r. IfSome r (λ took. Takes S.reads S.is_at_end S.fails
+            self.old.reader self.old.decoder took self.new.reader)) }
+        ensures none { IfReady result (λ r. IfNone r
+            (Continues S.reads self.old.reader self.old.decoder self.new.reader self.new.decoder)) }
+        ensures goes_on { OnPending result
+            (Continues S.reads self.old.reader self.old.decoder self.new.reader self.new.decoder) }
         ensures registered { OnPending result (Covers cx.new (S.needs self.new.reader)) }
         ensures kept { Keeps cx.old cx.new }
     {
@@ -99,11 +111,13 @@ impl<S: AsyncRead> Taking<S> {
     }
 }
 
-/// Takes a piece of a frame, which has no more bytes than are wanted. None: more is wanted.
+/// Takes a piece of a frame, which has no more bytes than are wanted. Returns `None` if more is wanted.
 fn feed(alloc: Global, decoder: &mut FrameDecoder, piece: &[u8]) -> Option<Took>
     requires { length piece.now ≤ wanted decoder.old }
-    ensures more { IfNone result ((before : List ℕ) → Holds decoder.old before → Holds decoder.new (before ++ piece.now)) }
-    ensures took { IfSome result (λ took. (before : List ℕ) → Holds decoder.old before → Makes took (before ++ piece.now)) }
+    ensures more { IfNone result
+        ((before : List ℕ) → Holds decoder.old before → Holds decoder.new (before ++ piece.now)) }
+    ensures took { IfSome result
+        (λ took. (before : List ℕ) → Holds decoder.old before → Makes took (before ++ piece.now)) }
 {
     match decoder.feed(alloc, piece) {
         Ok((_, Some(incoming))) => Some(Ok(Found::Whole(incoming))),

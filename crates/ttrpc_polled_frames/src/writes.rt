@@ -16,7 +16,7 @@ use ttrpc_proto::framing::failure::StreamFailure;
 use ttrpc_proto::{Error, GenMessage, MessageHeader, Result};
 use ttrpc_wire::Codec;
 
-/// The future of a header and a payload that are written as `write_message` does: it doesn't flush.
+/// The future that writes a header and a payload as `write_message` does: it doesn't flush.
 #[derive(Drop)]
 pub struct PollWrite<W, P> {
     alloc: Global,
@@ -24,14 +24,15 @@ pub struct PollWrite<W, P> {
 }
 
 impl<W: AsyncWrite, P: HasBytes> PollWrite<W, P> {
-    /// The header as it stands, and the payload. Memory for what is offered first may be refused.
+    /// Returns the future that writes this header and this payload. Memory for the first bytes may be refused.
     pub fn new(
         alloc: Global,
         writer: W,
         header: &MessageHeader,
         payload: P,
     ) -> Result<PollWrite<W, P>>
-        ensures ok { IfOk result (λ f. (f.offering.writer ≡ writer) × (left_of P.bytes f.offering ≡ header_bytes header.now ++ P.bytes payload)) }
+        ensures ok { IfOk result (λ f. (f.offering.writer ≡ writer)
+            × (left_of P.bytes f.offering ≡ header_bytes header.now ++ P.bytes payload)) }
         ensures err { IfErr result (λ e. e ≡ NoMemory) }
     {
         let offering = Offering::of_frame(alloc, writer, header, payload)?;
@@ -47,7 +48,8 @@ impl<W: AsyncWrite, P: HasBytes> Future for PollWrite<W, P> {
 
     ghost needs = { λ f source. W.needs f.offering.writer source };
 
-    ghost gives = { λ f r. WillEnd W.writes (λ _. ⊤) (TellsOrZero W.fails W.is_full) f.offering.writer (left_of P.bytes f.offering) r };
+    ghost gives = { λ f r. WillEnd W.writes
+        (λ _. ⊤) (TellsOrZero W.fails W.is_full) f.offering.writer (left_of P.bytes f.offering) r };
 
     fn poll(&mut self, cx: &mut Context<'_>) -> Poll<Result<()>> {
         match self.offering.poll_offer(cx) {
@@ -60,7 +62,7 @@ impl<W: AsyncWrite, P: HasBytes> Future for PollWrite<W, P> {
     }
 }
 
-/// The future of a message that is written as `write_to` of `GenMessage` and `Message` does: it flushes once.
+/// The future that writes a message as `write_to` of `GenMessage` and `Message` does: it flushes once.
 #[derive(Drop)]
 pub struct WriteMessage<W, P> {
     alloc: Global,
@@ -68,13 +70,14 @@ pub struct WriteMessage<W, P> {
 }
 
 impl<'a, W: AsyncWrite> WriteMessage<W, &'a [u8]> {
-    /// This message. Memory for what is offered first may be refused.
+    /// Returns the future that writes this message. Memory for the first bytes may be refused.
     pub fn of_gen(
         alloc: Global,
         writer: W,
         message: &'a GenMessage,
     ) -> Result<WriteMessage<W, &'a [u8]>>
-        ensures ok { IfOk result (λ f. (f.offering.writer ≡ writer) × (left_of (λ s. s.now) f.offering ≡ header_bytes message.now.header ++ message.now.payload)) }
+        ensures ok { IfOk result (λ f. (f.offering.writer ≡ writer) × (left_of
+            (λ s. s.now) f.offering ≡ header_bytes message.now.header ++ message.now.payload)) }
         ensures err { IfErr result (λ e. e ≡ NoMemory) }
     {
         let payload = message.payload.as_slice();
@@ -84,7 +87,7 @@ impl<'a, W: AsyncWrite> WriteMessage<W, &'a [u8]> {
 }
 
 impl<W: AsyncWrite> WriteMessage<W, Vec<u8>> {
-    /// The message of this value, under its header as it stands.
+    /// Returns the future that writes this value's message with this header.
     pub fn of_value<C: Codec>(
         alloc: Global,
         writer: W,
@@ -92,8 +95,10 @@ impl<W: AsyncWrite> WriteMessage<W, Vec<u8>> {
     ) -> Result<WriteMessage<W, Vec<u8>>>
     where
         C::E: Display + Drop,
-        ensures ok { IfOk result (λ f. (f.offering.writer ≡ writer) × (left_of (λ v. v.items) f.offering ≡ header_bytes message.now.header ++ C.written message.now.payload)) }
-        ensures err { IfErr result (IsUnwritten C.E.is_no_memory C.E.output (C.written message.now.payload)) }
+        ensures ok { IfOk result (λ f. (f.offering.writer ≡ writer) × (left_of (λ v. v.items)
+            f.offering ≡ header_bytes message.now.header ++ C.written message.now.payload)) }
+        ensures err { IfErr result
+            (IsUnwritten C.E.is_no_memory C.E.output (C.written message.now.payload)) }
     {
         let payload = encoded(alloc, &message.payload)?;
         match Offering::of_frame(alloc, writer, &message.header, payload) {
@@ -110,7 +115,8 @@ impl<W: AsyncWrite, P: HasBytes> Future for WriteMessage<W, P> {
 
     ghost needs = { λ f source. W.needs f.offering.writer source };
 
-    ghost gives = { λ f r. WillEnd W.writes W.is_flushed (TellsIt W.fails W.is_full) f.offering.writer (left_of P.bytes f.offering) r };
+    ghost gives = { λ f r. WillEnd W.writes W.is_flushed
+        (TellsIt W.fails W.is_full) f.offering.writer (left_of P.bytes f.offering) r };
 
     fn poll(&mut self, cx: &mut Context<'_>) -> Poll<Result<()>> {
         match self.offering.poll_flushed(cx) {

@@ -1,4 +1,4 @@
--- What a server is built with, what calls make of it, and what it refuses.
+-- A server as it was built, the results of calls on it, and its refusals.
 -- Source: the Rust crate, for the limits and for the text of a server without a listener; this project's, for the rest.
 use Rattle.std.specs.Prelude.{◌≡◌, ◌⊎◌, ◌&&◌, ◌+◌, ◌-◌, ◌^◌, min, ℕ, List, [], String, codes, Bool, Option, Some, None, IfSome, IsSome, nat_le, true, false}
 use Rattle.std.specs.Duration.{as_nanos}
@@ -12,7 +12,7 @@ use Rattle.ttrpc_polled_server.specs.declared.services.Service.{Service}
 use Rattle.ttrpc_polled_server.specs.declared.settings.Settings.{Settings}
 use Rattle.ttrpc_polled_server.specs.declared.stop.Stop.{Stop}
 
--- a server: its settings, its listener, what it serves, its hook, its watch, and what its connections stop by
+-- a server: its settings, its listener, its services, its hook, its watch, and the state by which its connections stop
 pub record Built (M T A V : Type 0) : Type 0 where
   pub settings : Settings
   pub listener : Option Listener
@@ -34,17 +34,17 @@ pub record IsNewSettings (s : Settings) : Type 0 where
   pub listening : s.is_listening ≡ false
   pub fixed : s.is_fixed ≡ false
 
--- when a pause is over that begins at this moment, if it has a limit
+-- the end of a pause that begins at this moment, if it has a limit
 abbrev pub pause_end : Option Duration → ℕ → Option ℕ
 pause_end (Some limit) now = Some (min (now + min (as_nanos limit) (2 ^ 64 - 1)) (2 ^ 64 - 1))
 pause_end None now = None
 
--- so much is within a limit, if there is one
+-- the count is within the limit, if there is one
 abbrev pub within : Option ℕ → ℕ → Bool
 within (Some most) count = nat_le count most
 within None count = true
 
--- a connection is read of which so many jobs and so many bytes wait
+-- a connection is read if this many jobs and this many bytes wait
 abbrev pub has_room : Settings → ℕ → ℕ → Bool
 has_room s jobs bytes = within s.waiting_jobs jobs && within s.waiting_bytes bytes
 
@@ -59,11 +59,11 @@ module _ {M T A V : Type 0} where
   abbrev pub with_listener : Built M T A V → Listener → Built M T A V
   with_listener server listener = record server { listener = Some listener }
 
-  -- the server once it has started: its listener is with its connections
+  -- the server after it has started: its listener is with its connections
   abbrev pub listening : Built M T A V → Built M T A V
   listening server = record server { settings = record server.settings { is_listening = true; is_fixed = true }; listener = None }
 
-  -- the server once it accepts no more
+  -- the server after it has stopped accepting
   abbrev pub silent : Built M T A V → Built M T A V
   silent server = record server { settings = record server.settings { is_listening = false } }
 
@@ -74,15 +74,15 @@ module _ {M T A V : Type 0} where
 
 -- ---- refusals
 
--- the error of this text, or no memory for it
+-- the error of this text, or `NoMemory` if memory for it was refused
 abbrev pub IsToldBy : List ℕ → Error → Type 0
 IsToldBy text e = (e ≡ Others text) ⊎ (e ≡ NoMemory)
 
--- that of more services
+-- the error that refuses more services
 abbrev pub IsFixed : Error → Type 0
 IsFixed = IsToldBy (codes "services are fixed after start")
 
--- that of a server without a listener
+-- the error of a server without a listener
 abbrev pub IsUnbound : Error → Type 0
 IsUnbound = IsToldBy (codes "ttrpc-rust server started with no bound listener")
 

@@ -14,8 +14,8 @@ use Rattle.ttrpc_polled_server.specs.declared.connection.ServerConnection.{Serve
 use Rattle.ttrpc_polled_server.specs.declared.settings.Settings.{Settings}
 use Rattle.ttrpc_polled_server.specs.declared.stop.Stop.{Stop}
 
--- It is over this reader and writer and has moved nothing. It serves these services, with the limits of these settings, this is known
--- of it, and it stops by this.
+-- The connection is over this reader and writer and has moved nothing. It serves these services, with the limits of these settings. It has
+-- this data, and stops by this state.
 pub record IsOpened {R M T S W O I F G : Type 0} (reader : S) (writer : W) (known : Facts) (services : Served M T) (settings : Settings) (stop : Stop) (c : ServerConnection R M T S W O I F G) : Type 0 where
   pub shared : arc_value c.link.shared ≡ arc_value c.shared
   pub reads : (c.link.inlet.reader ≡ reader) × (c.link.inlet.piece ≡ []) × (c.link.is_reading ≡ true)
@@ -26,7 +26,8 @@ pub record IsOpened {R M T S W O I F G : Type 0} (reader : S) (writer : W) (know
   pub stops : arc_value c.seat.stop ≡ stop
   pub goes_on : (c.is_over ≡ false) × (c.is_ending ≡ false) × (c.is_leaving ≡ false)
 
--- A hook gave something for it, and it was opened over two ends with that, these services, these settings and this to stop by.
+-- A hook accepted the connection with some output. The connection was opened over two ends, with this output, these services, these
+-- settings and this state to stop by.
 abbrev pub IsAccepted : {R M T S W O I F G : Type 0} → (Result (HookOutput O I) HookError → Type 0) → Served M T → Settings → Stop → ServerConnection R M T S W O I F G → Type 0
 IsAccepted {R} {M} {T} {S} {W} {O} {I} {F} {G} gives services settings stop c =
     (output : HookOutput O I) × gives (Ok output) × ((reader : S) × (writer : W) × IsOpened reader writer (facts_of output.connection_data.entries) services settings stop c)
@@ -36,6 +37,6 @@ abbrev pub IsPassing : Error → Type 0
 IsPassing e = (e ≡ Nix Interrupted) ⊎ (e ≡ Nix ConnectionAborted) ⊎ (e ≡ Nix ConnectionReset)
     ⊎ (e ≡ Nix NetworkDown) ⊎ (e ≡ Nix NetworkUnreachable) ⊎ (e ≡ Nix HostUnreachable)
 
--- a connection isn't opened: memory or the system refused, or all have ended
+-- a connection isn't opened: memory or the system refused, or all connections have ended
 abbrev pub IsNotOpened : Error → Type 0
 IsNotOpened e = IsNotMade e ⊎ (e ≡ LocalClosed)

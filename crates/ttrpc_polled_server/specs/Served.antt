@@ -1,4 +1,4 @@
--- What a server serves, and what is added to it.
+-- The handlers that a server serves, and how services are added to them.
 -- Source: the Rust crate, for what a service has; this project's, for what becomes of a name that stands already.
 use Rattle.std.specs.Prelude.{◌≡◌, ℕ, List, [], ◌∷◌, String, string_bytes}
 use Rattle.ttrpc_server.specs.Methods.{Handlers, PutsAll}

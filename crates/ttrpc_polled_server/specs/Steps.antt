@@ -1,4 +1,4 @@
--- What is done to a server's core as a handler ends.
+-- How a server's core changes when a handler ends.
 -- Source: this project's.
 use Rattle.std.specs.Prelude.{◌≡◌, ◌≢◌, ◌⊎◌, ℕ, Bool, true, codes, Option, Result, Ok, Err, IfErr, OnErr, OnOk}
 use Rattle.ttrpc_proto.specs.declared.error.Error.{Error}
@@ -18,14 +18,14 @@ use Rattle.ttrpc_polled.specs.declared.streams.sending.Sending.{Sending}
 use Rattle.ttrpc_polled_server.specs.declared.ended.Ended.{Ended}
 use Rattle.ttrpc_polled_server.specs.declared.ended.Ended.TheVariants.{Answers, Ends, Dropped}
 
--- A request's job was answered by this, or that was refused, and nothing changed.
+-- A request's job was answered with this result; or the answer was refused, and nothing changed.
 pub record IsAnswered {O I : Type 0} (out : OutboundTransform O) (old : ServerCore O I) (id : ℕ) (given : Result Response Error) (result : Result (Unit {0}) Error) (new : ServerCore O I) : Type 0 where
   pub answered : (r : Response) → given ≡ Ok r → OnOk result (AnswersIt out old id r new)
   pub handler_failed : (e : Error) → given ≡ Err e → OnOk result (AnswersError out old.state.rules old id e new)
   pub refused : IfErr result (RefusesAnswer out old id given)
   pub err : OnErr result (new ≡ old)
 
--- The one core call was made that tells how the handler of a job ended; or it was refused, and nothing changed.
+-- The one core call that reports how the handler of a job ended was made. Or it was refused, and nothing changed.
 abbrev pub IsEnded : {O I : Type 0} → OutboundTransform O → ServerCore O I → ℕ → Ended → Result (Unit {0}) Error → ServerCore O I → Type 0
 IsEnded out old id (Answers given) result new = IsAnswered out old id given result new
 IsEnded out old id (Ends given) (Ok _) new = EndsStream out old id given new
@@ -33,38 +33,38 @@ IsEnded out old id (Ends given) (Err e) new = (new ≡ old) × RefusesEnd out ol
 IsEnded out old id Dropped (Ok _) new = new ≡ old
 IsEnded out old id Dropped (Err e) new = ⊥
 
--- a stream's handler ended by the error that who receives is told behind the end of the input
+-- a stream's handler ended with the error that a receiver gets after the end of the input
 abbrev pub IsDisconnect : Ended → Type 0
 IsDisconnect (Answers given) = ⊥
 IsDisconnect (Ends (Ok end)) = ⊥
 IsDisconnect (Ends (Err e)) = (e ≡ Socket (codes "socket disconnected")) ⊎ (e ≡ Socket (codes "socket disconnected inside a frame"))
 IsDisconnect Dropped = ⊥
 
--- behind the end of the input a handler ended by that, and nothing was told
+-- after the end of the input a handler ended with its error, and nothing was reported
 abbrev pub PassesOn : {O I : Type 0} → Bool → ServerCore O I → Ended → ServerCore O I → Type 0
 PassesOn input_ended old ended new = (input_ended ≡ true) × IsDisconnect ended × (new ≡ old)
 
--- the same handler's end, by an error in the place of what it gave
+-- the same handler's end, with an error in place of its result
 abbrev pub failed_by : Ended → Error → Ended
 failed_by (Answers given) e = Answers (Err e)
 failed_by (Ends given) e = Ends (Err e)
 failed_by Dropped e = Dropped
 
--- There is no room for the end of a handler, or for the status that says why that is refused. Nothing changed.
+-- There is no room for the end of a handler, or for the status with the reason of its refusal. Nothing changed.
 abbrev pub LacksRoomFor : {O I : Type 0} → OutboundTransform O → ServerCore O I → ℕ → Ended → Type 0
 LacksRoomFor out old id ended =
     IsEnded out old id ended (Err NoRoom) old
     ⊎ ((refusal : Error) × IsEnded out old id ended (Err refusal) old × IsEnded out old id (failed_by ended refusal) (Err NoRoom) old)
 
--- The end of a handler was refused for this, which isn't want of room. Then its job is over, and nothing changed; or the client is told
--- why by a status; or that is refused, too, and for this the connection fails.
+-- The end of a handler was refused for this error, which isn't want of room. Either its job is over, and nothing changed; or the client
+-- gets the reason as a status; or the status is refused, too, and the connection fails with that error.
 abbrev pub FailsFor : {O I : Type 0} → OutboundTransform O → ServerCore O I → ℕ → Ended → Error → ServerCore O I → Type 0
 FailsFor out old id ended refusal new =
     (IsUnknown old.state.jobs.list id × (new ≡ old))
     ⊎ IsEnded out old id (failed_by ended refusal) (Ok tt) new
     ⊎ ((last : Error) × (last ≢ NoRoom) × IsEnded out old id (failed_by ended refusal) (Err last) old × (new ≡ record old { connection = failing old.connection (Told last) }))
 
--- It was told to the core how the handler of a job ended, or what refused that.
+-- The core got a report of how the handler of a job ended, or of the error that refused it.
 abbrev pub EndsJob : {O I : Type 0} → OutboundTransform O → ServerCore O I → ℕ → Ended → ServerCore O I → Type 0
 EndsJob out old id ended new =
     IsEnded out old id ended (Ok tt) new

@@ -29,7 +29,7 @@ use ttrpc_proto::{Error, MessageHeader, Request, Result};
 use ttrpc_secure::{ConnectionData, InboundTransform, OutboundTransform};
 use ttrpc_server::{Job, JobId};
 
-/// How often one poll turns at most, before it lets other tasks run.
+/// The most turns of one poll, before it lets other tasks run.
 const TURNS: u8 = 64;
 
 /// The future of a server's connection. While it is polled, requests are read, their handlers run, and their answers are written.
@@ -56,7 +56,7 @@ pub struct ServerConnection<
     connection_data: Arc<ConnectionData, Global>,
     seat: Seat,
     jobs: FuturesUnordered<Finishing<M::Call, T::Call, O, I>>,
-    // How a job ended that couldn't begin, while there is no room to tell.
+    // The end of a job that couldn't begin, while there is no room to report it.
     untold: Option<(JobId, Ended)>,
     pace: Pace,
     is_over: bool,
@@ -68,7 +68,7 @@ pub struct ServerConnection<
     input_end: Arc<InputEnd, Global>,
 }
 
-/// What a connection is made of beside its two ends.
+/// The parts of a connection beside its two ends.
 #[derive(Drop)]
 pub(crate) struct Parts<M: Drop, T: Drop, O, I> {
     pub(crate) shared: Arc<ServerShared<O, I>, Global>,
@@ -91,15 +91,17 @@ where
     S: AsyncRead,
     W: AsyncWrite,
 {
-    /// Over this link, of these parts. No handler runs yet.
+    /// Makes the future over this link, of these parts. No handler runs yet.
     pub(crate) fn new(
         rt: R,
         link: Link<R, S, W, ServerShared<O, I>>,
         parts: Parts<M, T, O, I>,
     ) -> Result<Self>
         ensures can { IfOk result (CanPoll M.Call.Future.can_poll T.Call.Future.can_poll) }
-        ensures made { IfOk result (λ c. (c.link ≡ link) × (c.shared ≡ parts.shared) × (c.services ≡ parts.services) × (c.connection_data ≡ parts.connection_data)
-            × (c.seat ≡ parts.seat) × (c.limit ≡ parts.limit) × (c.half_close ≡ parts.half_close) × (c.is_over ≡ false) × (c.is_ending ≡ false) × (c.is_leaving ≡ false)) }
+        ensures made { IfOk result (λ c. (c.link ≡ link) × (c.shared ≡ parts.shared)
+            × (c.services ≡ parts.services) × (c.connection_data ≡ parts.connection_data)
+            × (c.seat ≡ parts.seat) × (c.limit ≡ parts.limit) × (c.half_close ≡ parts.half_close)
+            × (c.is_over ≡ false) × (c.is_ending ≡ false) × (c.is_leaving ≡ false)) }
         ensures err { IfErr result (λ e. e ≡ AnError.NoMemory) }
     {
         let Parts {
@@ -132,11 +134,12 @@ where
         })
     }
 
-    /// Begins a poll: looks whether the connection is to end and whether a time limit has passed, and tells the core the moment.
+    /// Begins a poll: looks whether the connection is to end and whether a time limit has passed, and reports the moment to the core.
     /// Returns `None` if the time for the connection's end has passed.
     fn look(&mut self, cx: &mut Context<'_>) -> Option<Share>
         ensures asked { HasAsked self.new cx.new }
-        ensures due { IfSome result (λ share. self.new.is_ending ≡ true → self.old.is_ending ≡ true → IfSome self.new.grace.set_for (λ at. share.moment < at)) }
+        ensures due { IfSome result (λ share. self.new.is_ending ≡ true → self.old.is_ending ≡ true
+            → IfSome self.new.grace.set_for (λ at. share.moment < at)) }
         ensures jobs { self.new.jobs ≡ self.old.jobs }
         ensures kept { Keeps cx.old cx.new }
     {
@@ -156,8 +159,10 @@ where
     /// Returns whether the connection is to end: its link is over, or the server disconnects. If not, the task is woken when the server
     /// does.
     fn is_to_end(&mut self, cx: &mut Context<'_>) -> bool
-        ensures asked { result ≡ false → Covers cx.new (λ s. s ≡ (arc_value self.new.seat.stop).told.id) }
-        ensures rest { (self.new ≡ record self.old { seat = self.new.seat }) × (self.new.seat.stop ≡ self.old.seat.stop) }
+        ensures asked { result ≡ false
+            → Covers cx.new (λ s. s ≡ (arc_value self.new.seat.stop).told.id) }
+        ensures rest { (self.new ≡ record self.old { seat = self.new.seat })
+            × (self.new.seat.stop ≡ self.old.seat.stop) }
         ensures kept { Keeps cx.old cx.new }
     {
         if self.is_over {
@@ -168,11 +173,15 @@ where
 
     /// Begins or ends a job; if there is none, moves bytes and looks whether the connection may end.
     fn turn(&mut self, share: &mut Share, cx: &mut Context<'_>) -> Step
+        // The handlers may be polled. The poll has asked to be woken when the connection is to end, unless it ends already.
         requires can { CanPoll M.Call.Future.can_poll T.Call.Future.can_poll self.old }
         requires asked { HasAsked self.old cx.old }
+        // Both hold again.
         ensures can { CanPoll M.Call.Future.can_poll T.Call.Future.can_poll self.new }
         ensures asked { HasAsked self.new cx.new }
-        ensures waits { result ≡ Step.Waits → Covers cx.new (ConnectionNeeds S.AsyncRead.needs W.AsyncWrite.needs self.new) }
+        // After `Waits` the poll has registered with all that the connection waits for. Earlier registrations are kept.
+        ensures waits { result ≡ Step.Waits
+            → Covers cx.new (ConnectionNeeds S.AsyncRead.needs W.AsyncWrite.needs self.new) }
         ensures kept { Keeps cx.old cx.new }
     {
         if self.works(cx) {
@@ -191,9 +200,13 @@ where
 
     /// Polls the running handlers, or begins a waiting job. Returns whether a handler has ended or a job was begun.
     fn works(&mut self, cx: &mut Context<'_>) -> bool
+        // The handlers may be polled, before and after.
         requires { CanPoll M.Call.Future.can_poll T.Call.Future.can_poll self.old }
         ensures can { CanPoll M.Call.Future.can_poll T.Call.Future.can_poll self.new }
-        ensures waits { result ≡ false → 0 < set_len self.new.jobs → Hears cx.new self.new.jobs.tasks.source.id }
+        // At false the poll has registered with the handlers, if some run.
+        ensures waits { result ≡ false → 0 < set_len self.new.jobs
+            → Hears cx.new self.new.jobs.tasks.source.id }
+        // Only the handlers, the pace and the end that isn't reported yet changed. Earlier registrations are kept.
         ensures rest { IsSameBeside self.old self.new }
         ensures kept { Keeps cx.old cx.new }
     {
@@ -212,9 +225,13 @@ where
 
     /// Polls the running handlers. Returns whether one has ended.
     fn handles(&mut self, cx: &mut Context<'_>) -> bool
+        // The handlers may be polled, before and after.
         requires { CanPoll M.Call.Future.can_poll T.Call.Future.can_poll self.old }
         ensures can { CanPoll M.Call.Future.can_poll T.Call.Future.can_poll self.new }
-        ensures waits { result ≡ false → 0 < set_len self.new.jobs → Hears cx.new self.new.jobs.tasks.source.id }
+        // At false the poll has registered with the handlers, if some run.
+        ensures waits { result ≡ false → 0 < set_len self.new.jobs
+            → Hears cx.new self.new.jobs.tasks.source.id }
+        // Only the handlers, the pace and the end that isn't reported yet changed. Earlier registrations are kept.
         ensures rest { IsSameBeside self.old self.new }
         ensures kept { Keeps cx.old cx.new }
     {
@@ -230,17 +247,16 @@ where
         true
     }
 
-    /// Tells the core how a job ended that couldn't begin, if there is such a job. Returns whether none is left.
+    /// Reports to the core how a job ended that couldn't begin, if there is such a job. Returns whether none is left.
     fn tells_untold(&mut self) -> bool
         ensures rest { self.new ≡ record self.old { untold = self.new.untold } }
     {
-        let Some(untold) = self.untold.take() else {
+        let Some(untold) = &self.untold else {
             return true;
         };
-        let (id, ended) = untold;
-        let is_told = self.tells(id, &ended);
-        if !is_told {
-            self.untold = Some((id, ended));
+        let is_told = self.tells(untold.0, &untold.1);
+        if is_told {
+            self.untold = None;
         }
         is_told
     }
@@ -257,7 +273,8 @@ where
 
     /// Lets ready answers leave, unless the link is over.
     fn flush(&mut self, share: &mut Share, cx: &mut Context<'_>)
-        ensures rest { (self.new.jobs ≡ self.old.jobs) × (self.new.seat ≡ self.old.seat) × (self.new.grace ≡ self.old.grace) × (self.new.is_ending ≡ self.old.is_ending) }
+        ensures rest { (self.new.jobs ≡ self.old.jobs) × (self.new.seat ≡ self.old.seat)
+            × (self.new.grace ≡ self.old.grace) × (self.new.is_ending ≡ self.old.is_ending) }
         ensures kept { Keeps cx.old cx.new }
     {
         if !self.is_over && self.link.flush(share, cx) {
@@ -265,10 +282,12 @@ where
         }
     }
 
-    /// Moves bytes, unless the link is over. It waits, too, where that is over.
+    /// Moves bytes, unless the link is over. If the link is over, the result is `Waits`, too.
     fn poll_link(&mut self, share: &mut Share, cx: &mut Context<'_>) -> Step
-        ensures waits { result ≡ Step.Waits → (self.new.is_over ≡ true) ⊎ Covers cx.new (LinkNeeds S.AsyncRead.needs W.AsyncWrite.needs asked_source self.new.link) }
-        ensures rest { (self.new.jobs ≡ self.old.jobs) × (self.new.seat ≡ self.old.seat) × (self.new.grace ≡ self.old.grace) × (self.new.is_ending ≡ self.old.is_ending) }
+        ensures waits { result ≡ Step.Waits → (self.new.is_over ≡ true) ⊎ Covers cx.new
+            (LinkNeeds S.AsyncRead.needs W.AsyncWrite.needs asked_source self.new.link) }
+        ensures rest { (self.new.jobs ≡ self.old.jobs) × (self.new.seat ≡ self.old.seat)
+            × (self.new.grace ≡ self.old.grace) × (self.new.is_ending ≡ self.old.is_ending) }
         ensures kept { Keeps cx.old cx.new }
     {
         if self.is_over {
@@ -284,13 +303,13 @@ where
         }
     }
 
-    /// The next job that waits.
+    /// Returns the next job that waits.
     fn next_job(&self) -> Option<Job> {
         let mut guard = lock(&self.shared.held)?;
         (&mut *guard).take_job()
     }
 
-    /// Begins a job. Where it can't begin, its client is told why.
+    /// Begins a job. If it can't begin, its client gets the reason.
     fn begin(&mut self, job: Job, cx: &mut Context<'_>)
         requires { CanPoll M.Call.Future.can_poll T.Call.Future.can_poll self.old }
         ensures can { CanPoll M.Call.Future.can_poll T.Call.Future.can_poll self.new }
@@ -311,20 +330,23 @@ where
         }
     }
 
-    /// A handler that begins is among those that run.
+    /// Adds a handler that begins to those that run.
     fn run(&mut self, begun: Result<Running<M::Call, T::Call, O, I>>) -> Result<()>
         requires run { CanPoll M.Call.Future.can_poll T.Call.Future.can_poll self.old }
-        requires begun { IfOk begun (λ running. HandledCanPoll M.Call.Future.can_poll T.Call.Future.can_poll running.handled) }
+        requires begun { IfOk begun (λ running. HandledCanPoll M.Call.Future.can_poll
+            T.Call.Future.can_poll running.handled) }
         ensures can { CanPoll M.Call.Future.can_poll T.Call.Future.can_poll self.new }
         ensures rest { IsSameBeside self.old self.new }
     {
         self.keep(Finishing::new(begun?))
     }
 
-    /// This handler is among those that run.
+    /// Adds this handler to those that run.
     fn keep(&mut self, finishing: Finishing<M::Call, T::Call, O, I>) -> Result<()>
         requires run { CanPoll M.Call.Future.can_poll T.Call.Future.can_poll self.old }
-        requires kept { finishing.ended ≡ None → HandledCanPoll M.Call.Future.can_poll T.Call.Future.can_poll finishing.running.handled }
+        requires kept { finishing.ended ≡ None
+            → HandledCanPoll M.Call.Future.can_poll
+            T.Call.Future.can_poll finishing.running.handled }
         ensures can { CanPoll M.Call.Future.can_poll T.Call.Future.can_poll self.new }
         ensures rest { IsSameBeside self.old self.new }
     {
@@ -334,15 +356,19 @@ where
         }
     }
 
-    /// The same, where the handler hasn't ended once it was polled: most answer at once, and take no place then.
+    /// Polls a handler that begins, and adds it to those that run if it hasn't ended. Most handlers answer at once, and so take no place.
     fn run_at_once(
         &mut self,
         begun: Result<Running<M::Call, T::Call, O, I>>,
         cx: &mut Context<'_>,
     ) -> Result<()>
+        // The handlers that run may be polled, and so may the one that begins.
         requires run { CanPoll M.Call.Future.can_poll T.Call.Future.can_poll self.old }
-        requires begun { IfOk begun (λ running. HandledCanPoll M.Call.Future.can_poll T.Call.Future.can_poll running.handled) }
+        requires begun { IfOk begun (λ running. HandledCanPoll M.Call.Future.can_poll
+            T.Call.Future.can_poll running.handled) }
+        // The handlers that run may be polled again.
         ensures can { CanPoll M.Call.Future.can_poll T.Call.Future.can_poll self.new }
+        // Only the handlers, the pace and the end that isn't reported yet changed. Earlier registrations are kept.
         ensures rest { IsSameBeside self.old self.new }
         ensures kept { Keeps cx.old cx.new }
     {
@@ -356,10 +382,12 @@ where
         }
     }
 
-    /// The handler of a method, begun.
+    /// Begins the handler of a method.
     fn method_call(&self, job: Job) -> Result<Running<M::Call, T::Call, O, I>>
-        ensures can { IfOk result (λ running. HandledCanPoll M.Call.Future.can_poll T.Call.Future.can_poll running.handled) }
-        ensures own { IfOk result (λ running. (running.id ≡ job.id) × (arc_value running.shared ≡ arc_value self.now.shared)) }
+        ensures can { IfOk result (λ running. HandledCanPoll M.Call.Future.can_poll
+            T.Call.Future.can_poll running.handled) }
+        ensures own { IfOk result (λ running. (running.id ≡ job.id)
+            × (arc_value running.shared ≡ arc_value self.now.shared)) }
         ensures dropped { IfOk result (λ running. running.may_be_dropped ≡ true) }
     {
         let Job {
@@ -384,10 +412,12 @@ where
         })
     }
 
-    /// The handler of a stream, begun.
+    /// Begins the handler of a stream.
     fn stream_call(&self, job: Job) -> Result<Running<M::Call, T::Call, O, I>>
-        ensures can { IfOk result (λ running. HandledCanPoll M.Call.Future.can_poll T.Call.Future.can_poll running.handled) }
-        ensures own { IfOk result (λ running. (running.id ≡ job.id) × (arc_value running.shared ≡ arc_value self.now.shared)) }
+        ensures can { IfOk result (λ running. HandledCanPoll M.Call.Future.can_poll
+            T.Call.Future.can_poll running.handled) }
+        ensures own { IfOk result (λ running. (running.id ≡ job.id)
+            × (arc_value running.shared ≡ arc_value self.now.shared)) }
         ensures kept { IfOk result (λ running. running.may_be_dropped ≡ false) }
     {
         let Job {
@@ -426,7 +456,7 @@ where
         )
     }
 
-    /// Tells the core how a job ended that couldn't begin, or keeps that until there is room.
+    /// Reports to the core how a job ended that couldn't begin, or keeps the end until there is room.
     fn end(&mut self, id: JobId, ended: Ended)
         ensures jobs { self.new.jobs ≡ self.old.jobs }
         ensures rest { IsSameBeside self.old self.new }
@@ -437,7 +467,7 @@ where
         self.pace.one_more();
     }
 
-    /// Tells the core how a job ended. Returns whether there was room for that.
+    /// Reports to the core how a job ended. Returns whether there was room for the report.
     fn tells(&self, id: JobId, ended: &Ended) -> bool {
         match lock(&self.shared.held) {
             Some(mut guard) => (&mut *guard).end(id, ended),
@@ -445,12 +475,16 @@ where
         }
     }
 
-    /// Looks whether the connection may end. The poll has asked before whether it is to end.
+    /// Looks whether the connection may end. The poll has looked before whether it is to end.
     fn poll_end(&mut self, cx: &mut Context<'_>) -> Step
+        // The poll has asked to be woken when the connection is to end, unless it ends already, before and after.
         requires asked { HasAsked self.old cx.old }
         ensures asked { HasAsked self.new cx.new }
+        // After `Waits` the poll has registered with all that the connection's end waits for.
         ensures waits { result ≡ Step.Waits → Covers cx.new (EndNeeds self.new) }
-        ensures rest { (self.new.jobs ≡ self.old.jobs) × (self.new.link ≡ self.old.link) × (self.new.is_over ≡ self.old.is_over) }
+        // The handlers and the link are as they were, and so is `is_over`. Earlier registrations are kept.
+        ensures rest { (self.new.jobs ≡ self.old.jobs) × (self.new.link ≡ self.old.link)
+            × (self.new.is_over ≡ self.old.is_over) }
         ensures kept { Keeps cx.old cx.new }
     {
         if self.is_ending {
@@ -466,9 +500,10 @@ where
         self.poll_half_close(cx)
     }
 
-    /// Nothing more is taken, and the handlers that run have a limited time.
+    /// Takes no more input, and limits the time of the handlers that run.
     fn begin_end(&mut self)
-        ensures rest { (self.new.jobs ≡ self.old.jobs) × (self.new.link ≡ self.old.link) × (self.new.is_over ≡ self.old.is_over) × (self.new.seat ≡ self.old.seat) }
+        ensures rest { (self.new.jobs ≡ self.old.jobs) × (self.new.link ≡ self.old.link)
+            × (self.new.is_over ≡ self.old.is_over) × (self.new.seat ≡ self.old.seat) }
         ensures ends { self.new.is_ending ≡ true }
     {
         self.is_ending = true;
@@ -490,7 +525,8 @@ where
 
     /// Sets the alarm for the handlers of requests, when the input has ended.
     fn begin_half_close(&mut self)
-        ensures { self.new ≡ record self.old { is_leaving = self.new.is_leaving; grace = self.new.grace } }
+        ensures { self.new
+            ≡ record self.old { is_leaving = self.new.is_leaving; grace = self.new.grace } }
     {
         if self.is_leaving || self.link.is_reading() {
             return;
@@ -503,11 +539,15 @@ where
 
     /// After the input has ended, lets the handlers of requests go on for a limited time.
     fn poll_half_close(&mut self, cx: &mut Context<'_>) -> Step
+        // The connection isn't ending. The poll has asked to be woken when it is to end.
         requires going { self.old.is_ending ≡ false }
         requires asked { HasAsked self.old cx.old }
+        // The poll still has, unless the connection ends now. After `Waits` it has registered with all that this end waits for.
         ensures asked { HasAsked self.new cx.new }
         ensures waits { result ≡ Step.Waits → Covers cx.new (EndNeeds self.new) }
-        ensures rest { (self.new.jobs ≡ self.old.jobs) × (self.new.link ≡ self.old.link) × (self.new.is_over ≡ self.old.is_over) }
+        // The handlers and the link are as they were, and so is `is_over`. Earlier registrations are kept.
+        ensures rest { (self.new.jobs ≡ self.old.jobs) × (self.new.link ≡ self.old.link)
+            × (self.new.is_over ≡ self.old.is_over) }
         ensures kept { Keeps cx.old cx.new }
     {
         self.begin_half_close();
@@ -531,7 +571,7 @@ where
         }
     }
 
-    /// Tells the core that the input has ended, once nothing more comes of what it brought. True: it was told now.
+    /// Reports the end of the input to the core, once nothing more comes of the input. Returns whether it was reported now.
     fn finish_input(&self) -> bool {
         let Some(mut guard) = lock(&self.shared.held) else {
             return false;
@@ -545,12 +585,16 @@ where
         true
     }
 
-    /// Ends it once no handler runs and all is written, or once the time for that is up.
+    /// Ends the connection once no handler runs and all is written, or once the time for that is up.
     fn poll_grace(&mut self, cx: &mut Context<'_>) -> Step
+        // The connection is ending, before and after.
         requires { self.old.is_ending ≡ true }
         ensures ending { self.new.is_ending ≡ true }
+        // After `Waits` the poll has registered with all that the connection's end waits for.
         ensures waits { result ≡ Step.Waits → Covers cx.new (EndNeeds self.new) }
-        ensures rest { (self.new.jobs ≡ self.old.jobs) × (self.new.link ≡ self.old.link) × (self.new.is_over ≡ self.old.is_over) }
+        // The handlers and the link are as they were, and so is `is_over`. Earlier registrations are kept.
+        ensures rest { (self.new.jobs ≡ self.old.jobs) × (self.new.link ≡ self.old.link)
+            × (self.new.is_over ≡ self.old.is_over) }
         ensures kept { Keeps cx.old cx.new }
     {
         let is_working = !self.jobs.is_empty() || self.untold.is_some();

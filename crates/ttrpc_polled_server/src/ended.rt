@@ -7,14 +7,14 @@ use ttrpc_proto::{Error, Response, Result};
 use ttrpc_secure::{InboundTransform, OutboundTransform};
 use ttrpc_server::{JobId, ServerCore};
 
-/// How a handler ended, by which the core call is named that tells of it.
+/// The end of a handler, which names the core call that reports it.
 #[derive(Debug, Drop)]
 pub enum Ended {
-    /// It answered a request: `answer`.
+    /// The handler answered a request: `answer`.
     Answers(Result<Response>),
-    /// It ended a stream: `end_stream`.
+    /// The handler ended a stream: `end_stream`.
     Ends(Result<Option<Response>>),
-    /// It was dropped, because its job had expired or its client was gone: no call.
+    /// The handler was dropped, because its job had expired or its client was gone: no call.
     Dropped,
 }
 
@@ -35,7 +35,7 @@ impl Ended {
         }
     }
 
-    /// Returns whether a stream's handler ended by the error that a receiver is given after the end of the input.
+    /// Returns whether a stream's handler ended with the error that a receiver gets after the end of the input.
     pub fn is_disconnect(&self) -> bool
         ensures yes { result ≡ true → IsDisconnect self.now }
         ensures no { result ≡ false → ¬ (IsDisconnect self.now) }
@@ -49,7 +49,7 @@ impl Ended {
         }
     }
 
-    /// The same handler's end, by an error in the place of what it gave.
+    /// Returns the same handler's end, with an error in place of its result.
     pub fn failed(&self, error: Error) -> Ended
         ensures { result ≡ failed_by self.now error }
     {

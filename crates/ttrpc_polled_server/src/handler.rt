@@ -1,4 +1,4 @@
-//! What handles requests and streams.
+//! The handlers of requests and streams.
 ghost use Rattle.std.specs.Prelude.{◌≡◌, ℕ, List, IfErr, IfOk, IsSome, Some, None, Ok, Err};
 ghost use Rattle.std.specs.Arc.{arc_value};
 ghost use Rattle.ttrpc_message.specs.Metadata.{seen, some_texts, texts_of, values_at};
@@ -15,24 +15,24 @@ use ttrpc_polled::{StreamInner, StreamLine};
 use ttrpc_proto::{Error, MessageHeader, Request, Response, Result};
 use ttrpc_secure::ConnectionData;
 
-/// What a handler is handed beside the request or the stream.
+/// The context that a handler gets beside the request or the stream.
 #[derive(Drop)]
 pub struct TtrpcContext {
     alloc: Global,
     /// The header of the request's frame.
     pub mh: MessageHeader,
-    /// What goes with the request: texts under keys.
+    /// The metadata of the request: texts under keys.
     pub metadata: BTreeMap<String, Vec<String>>,
-    /// How long the client waits for the response, in nanoseconds; 0 for no limit.
+    /// The time that the client waits for the response, in nanoseconds; 0 for no limit.
     pub timeout_nano: i64,
-    /// What is known of the connection.
+    /// The data of the connection.
     pub connection_data: Arc<ConnectionData, Global>,
     /// The end of the connection's input. When it has come, the client may be gone. `InputEnd::wait` waits for it.
     pub input_end: Arc<InputEnd, Global>,
 }
 
 impl TtrpcContext {
-    /// The context of a request with this header, on a connection of which this is known.
+    /// Makes the context of a request with this header, on a connection with this data.
     pub(crate) fn new(
         alloc: Global,
         mh: MessageHeader,
@@ -40,14 +40,17 @@ impl TtrpcContext {
         known: &Arc<ConnectionData, Global>,
         input_end: &Arc<InputEnd, Global>,
     ) -> Result<TtrpcContext>
-        // It has the header, what the request says and what is known.
+        // The context has the header, the request's data and the connection's data.
         ensures header { IfOk result (λ context. context.mh ≡ mh) }
         ensures metadata { IfOk result (λ context. (key : List ℕ)
-            → texts_of (seen context.metadata.entries) key ≡ some_texts (values_at request.now.metadata key)) }
+            → texts_of (seen context.metadata.entries) key
+            ≡ some_texts (values_at request.now.metadata key)) }
         ensures timeout { IfOk result (λ context. context.timeout_nano ≡ request.now.timeout_nano) }
-        ensures known { IfOk result (λ context. arc_value context.connection_data ≡ arc_value known.now) }
-        ensures input_end { IfOk result (λ context. arc_value context.input_end ≡ arc_value input_end.now) }
-        // An error is want of memory.
+        ensures known { IfOk result
+            (λ context. arc_value context.connection_data ≡ arc_value known.now) }
+        ensures input_end { IfOk result
+            (λ context. arc_value context.input_end ≡ arc_value input_end.now) }
+        // An error means that memory was refused.
         ensures only_memory { IfErr result (λ e. e ≡ Error.NoMemory) }
     {
         Ok(TtrpcContext {
@@ -60,13 +63,13 @@ impl TtrpcContext {
         })
     }
 
-    /// The allocator of handlers.
+    /// Returns the allocator of handlers.
     pub fn alloc(&self) -> Global {
         self.alloc
     }
 }
 
-/// What the request says; the connection isn't shown.
+/// Shows the request's data, but not the connection.
 impl fmt::Debug for TtrpcContext {
     fn fmt<W: fmt::Write>(&self, f: &mut fmt::Formatter<W>) -> fmt::Result {
         f.debug_struct("TtrpcContext")
@@ -77,22 +80,22 @@ impl fmt::Debug for TtrpcContext {
     }
 }
 
-/// Handles the requests of a method.
+/// A handler for the requests of a method.
 pub trait MethodHandler: Drop {
-    /// A request that is being handled. It gives the response, or an error, of which the client is told by a status of code
-    /// UNKNOWN and its text. It is dropped when the request's deadline has passed, when the connection has failed, and a limited
-    /// time after the connection's input has ended.
+    /// A request that is being handled. Its result is the response, or an error. The client gets an error as a status of code UNKNOWN with
+    /// the error's text. The call is dropped when the request's deadline has passed, when the connection has failed, and a limited time
+    /// after the connection's input has ended.
     type Call: Future<Output = Result<Response>>;
 
-    /// Begins to handle a request. What it does before it returns holds up the whole connection.
+    /// Begins to handle a request. All work before this call returns holds up the whole connection.
     fn handler(&self, ctx: TtrpcContext, req: Request) -> Self::Call
         ensures { Self.Call.can_poll result };
 }
 
-/// Handles the streams of a name.
+/// A handler for the streams of a name.
 pub trait StreamHandler<L: StreamLine>: Drop {
-    /// A stream that is being handled. What it gives ends the stream: a response, `None` for a frame that closes it, or an
-    /// error, of which the client is told by a status of code UNKNOWN and its text.
+    /// A stream that is being handled. Its result ends the stream: a response, `None` for a frame that closes it, or an error. The client
+    /// gets an error as a status of code UNKNOWN with the error's text.
     type Call: Future<Output = Result<Option<Response>>>;
 
     /// Begins to handle a stream.
@@ -100,7 +103,7 @@ pub trait StreamHandler<L: StreamLine>: Drop {
         ensures { Self.Call.can_poll result };
 }
 
-/// The methods of a service that has none. Under a name it would answer by `LocalClosed`.
+/// The methods of a service that has none. Under a name it would answer with `LocalClosed`.
 #[derive(Clone, Copy, Debug)]
 pub struct NoMethods {}
 

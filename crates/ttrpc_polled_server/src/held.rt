@@ -1,4 +1,4 @@
-//! What stands under the lock of a server's connection.
+//! The state under the lock of a server's connection.
 ghost use Rattle.std.specs.Prelude.{◌≡◌, ◌≢◌, ◌⊎◌, [], length, None, IfNone, IfSome, IsSome, true, false};
 ghost use Rattle.ttrpc_server.specs.Protocol.{Hands, drained};
 ghost use Rattle.futures.specs.Poll.{IfReady, OnPending};
@@ -31,7 +31,7 @@ use ttrpc_secure::{InboundTransform, OutboundTransform};
 use ttrpc_server::{Job, JobId, ServerCore};
 use ttrpc_wire::Blob;
 
-/// The core of a server, and the wakers of those who wait for what it tells.
+/// The core of a server, and the wakers of the tasks that wait for it.
 #[derive(Drop)]
 pub struct ServerHeld<O, I> {
     pub core: ServerCore<O, I>,
@@ -50,14 +50,15 @@ pub struct ServerHeld<O, I> {
 }
 
 impl<O: OutboundTransform + Drop, I: InboundTransform + Drop> ServerHeld<O, I> {
-    /// Makes the state of this core, for which nobody waits, with these settings. `input_end` is told when the input has ended.
+    /// Makes the state of this core, for which no task waits, with these settings. `input_end` learns when the input has ended.
     pub fn new(
         alloc: Global,
         core: ServerCore<O, I>,
         settings: Settings,
         input_end: Arc<InputEnd, Global>,
     ) -> Self
-        ensures { (result.core ≡ core) × (result.settings ≡ settings) × (result.input_ended ≡ false) × (result.is_gone ≡ false) × (result.drains ≡ false) × (result.pause ≡ None) }
+        ensures { (result.core ≡ core) × (result.settings ≡ settings) × (result.input_ended ≡ false)
+            × (result.is_gone ≡ false) × (result.drains ≡ false) × (result.pause ≡ None) }
     {
         ServerHeld {
             core,
@@ -92,10 +93,10 @@ impl<O: OutboundTransform + Drop, I: InboundTransform + Drop> ServerHeld<O, I> {
         Some(job)
     }
 
-    /// Tells the core how the handler of a job ended, or waits for room for that, at a place that is then given. If its answer can't
-    /// be sent, the client gets a status that says why; if that can't be sent either, the connection fails, so that the client doesn't
-    /// wait for ever. A stream's handler that ends by the error that it was given at the end of the input isn't answered. Wakes the
-    /// tasks that wait for the job or receive from its stream.
+    /// Reports to the core how the handler of a job ended, or waits for room for the report, at a place that `place` then has. If the
+    /// answer can't be sent, the client gets a status with the reason. If the status can't be sent either, the connection fails, so that
+    /// the client doesn't wait forever. A stream's handler that ends with the error that it got at the end of the input isn't answered.
+    /// Wakes the tasks that wait for the job or receive from its stream.
     pub fn poll_end(
         &mut self,
         id: JobId,
@@ -104,8 +105,11 @@ impl<O: OutboundTransform + Drop, I: InboundTransform + Drop> ServerHeld<O, I> {
         came: &Source,
         cx: &mut Context<'_>,
     ) -> Poll<()>
-        ensures told { IfReady result (λ _. EndsJob O.OutboundTransform self.old.core id ended.now self.new.core ⊎ PassesOn self.old.input_ended self.old.core ended.now self.new.core) }
-        ensures waits { OnPending result ((self.new.core ≡ self.old.core) × LacksRoomFor O.OutboundTransform self.old.core id ended.now) }
+        ensures told { IfReady result
+            (λ _. EndsJob O.OutboundTransform self.old.core id ended.now self.new.core
+            ⊎ PassesOn self.old.input_ended self.old.core ended.now self.new.core) }
+        ensures waits { OnPending result ((self.new.core ≡ self.old.core)
+            × LacksRoomFor O.OutboundTransform self.old.core id ended.now) }
         ensures registered { OnPending result (Covers cx.new (λ s. s ≡ came.now.id)) }
         ensures kept { Keeps cx.old cx.new }
     {
@@ -117,13 +121,22 @@ impl<O: OutboundTransform + Drop, I: InboundTransform + Drop> ServerHeld<O, I> {
         self.room.wait(number, came, cx)
     }
 
-    /// Tells the core how the handler of a job ended. Returns whether there was room for that.
+    /// Reports to the core how the handler of a job ended. Returns whether there was room for the report.
     pub fn end(&mut self, id: JobId, ended: &Ended) -> bool
-        ensures ends { result ≡ true → EndsJob O.OutboundTransform self.old.core id ended.now self.new.core ⊎ PassesOn self.old.input_ended self.old.core ended.now self.new.core }
-        ensures told { result ≡ true → ¬ (PassesOn self.old.input_ended self.old.core ended.now self.old.core) → EndsJob O.OutboundTransform self.old.core id ended.now self.new.core }
+        // At true the core got the report, unless the handler's error is a disconnect after the end of the input.
+        ensures ends { result ≡ true
+            → EndsJob O.OutboundTransform self.old.core id ended.now self.new.core
+            ⊎ PassesOn self.old.input_ended self.old.core ended.now self.new.core }
+        ensures told { result ≡ true
+            → ¬ (PassesOn self.old.input_ended self.old.core ended.now self.old.core)
+            → EndsJob O.OutboundTransform self.old.core id ended.now self.new.core }
+        // At true the job's handler and its receiver wait no longer, and at most those of other jobs still do.
         ensures running { result ≡ true → IsLeft id self.old.running self.new.running }
-        ensures receivers { result ≡ true → IsLeft id self.old.streams.receivers self.new.streams.receivers }
-        ensures waits { result ≡ false → (self.new ≡ self.old) × LacksRoomFor O.OutboundTransform self.old.core id ended.now }
+        ensures receivers { result ≡ true
+            → IsLeft id self.old.streams.receivers self.new.streams.receivers }
+        // At false there is no room for the report, and nothing changed.
+        ensures waits { result ≡ false
+            → (self.new ≡ self.old) × LacksRoomFor O.OutboundTransform self.old.core id ended.now }
     {
         if !self.passes_on(ended) && !self.tell_end(id, ended) {
             return false;
@@ -133,28 +146,32 @@ impl<O: OutboundTransform + Drop, I: InboundTransform + Drop> ServerHeld<O, I> {
         true
     }
 
-    /// Returns whether a handler ended by the end of the input, and nothing is told of that.
+    /// Returns whether a handler ended by the end of the input, so that nothing is reported.
     fn passes_on(&self, ended: &Ended) -> bool
-        ensures yes { result ≡ true → PassesOn self.now.input_ended self.now.core ended.now self.now.core }
-        ensures no { result ≡ false → ¬ (PassesOn self.now.input_ended self.now.core ended.now self.now.core) }
+        ensures yes { result ≡ true
+            → PassesOn self.now.input_ended self.now.core ended.now self.now.core }
+        ensures no { result ≡ false
+            → ¬ (PassesOn self.now.input_ended self.now.core ended.now self.now.core) }
     {
         self.input_ended && ended.is_disconnect()
     }
 
-    /// Tells the core how the handler of a job ended, and wakes everybody if the connection fails by that. Returns whether there was
-    /// room for that.
+    /// Reports to the core how the handler of a job ended, and wakes all tasks if the connection fails by that. Returns whether there was
+    /// room for the report.
     fn tell_end(&mut self, id: JobId, ended: &Ended) -> bool
-        ensures ends { result ≡ true → EndsJob O.OutboundTransform self.old.core id ended.now self.new.core }
+        ensures ends { result ≡ true
+            → EndsJob O.OutboundTransform self.old.core id ended.now self.new.core }
         ensures running { (self.new.running ≡ self.old.running) ⊎ (self.new.running ≡ []) }
         ensures streams { (self.new.streams ≡ self.old.streams) ⊎ (self.new.streams ≡ nobody) }
-        ensures waits { result ≡ false → (self.new ≡ self.old) × LacksRoomFor O.OutboundTransform self.old.core id ended.now }
+        ensures waits { result ≡ false
+            → (self.new ≡ self.old) × LacksRoomFor O.OutboundTransform self.old.core id ended.now }
     {
         let refusal = match ended.step(self.alloc, &mut self.core, id) {
             Ok(()) => return true,
             Err(Error::NoRoom) => return false,
             Err(refusal) => refusal,
         };
-        // A job that has expired is no more to be answered.
+        // A job that has expired is no longer to be answered.
         if self.core.stream_of(id).is_none() {
             return true;
         }
@@ -172,9 +189,16 @@ impl<O: OutboundTransform + Drop, I: InboundTransform + Drop> ServerHeld<O, I> {
     /// Waits until the handler of this job is to be dropped: the job has expired, the connection has failed, or the input ended too
     /// long ago.
     pub fn poll_dropped(&mut self, id: JobId, came: &Source, cx: &mut Context<'_>) -> Poll<()>
-        ensures over { IfReady result (λ _. (self.old.is_gone ≡ true) ⊎ IsSome self.old.core.connection.failure ⊎ IsUnknown self.old.core.state.jobs.list id) }
-        ensures runs { OnPending result ((job : AJob) × IsTaken self.old.core.state.jobs.list id job) }
-        ensures lives { OnPending result ((self.old.is_gone ≡ false) × (self.old.core.connection.failure ≡ None)) }
+        // If the poll is ready, the connection is gone or has failed, or there is no such job.
+        ensures over { IfReady result (λ _. (self.old.is_gone ≡ true)
+            ⊎ IsSome self.old.core.connection.failure
+            ⊎ IsUnknown self.old.core.state.jobs.list id) }
+        // If the poll is pending, the job was taken, and the connection isn't gone and hasn't failed.
+        ensures runs { OnPending result
+            ((job : AJob) × IsTaken self.old.core.state.jobs.list id job) }
+        ensures lives { OnPending result
+            ((self.old.is_gone ≡ false) × (self.old.core.connection.failure ≡ None)) }
+        // The core is as it was. A pending poll has registered with `came`, and earlier registrations are kept.
         ensures same { self.new.core ≡ self.old.core }
         ensures registered { OnPending result (Covers cx.new (λ s. s ≡ came.now.id)) }
         ensures kept { Keeps cx.old cx.new }
@@ -187,8 +211,12 @@ impl<O: OutboundTransform + Drop, I: InboundTransform + Drop> ServerHeld<O, I> {
 
     /// Returns whether the handler of this job is to be dropped.
     fn is_dropped(&self, id: JobId) -> bool
-        ensures yes { result ≡ true → (self.now.is_gone ≡ true) ⊎ IsSome self.now.core.connection.failure ⊎ IsUnknown self.now.core.state.jobs.list id }
-        ensures no { result ≡ false → (self.now.is_gone ≡ false) × (self.now.core.connection.failure ≡ None) × ((job : AJob) × IsTaken self.now.core.state.jobs.list id job) }
+        ensures yes { result ≡ true
+            → (self.now.is_gone ≡ true) ⊎ IsSome self.now.core.connection.failure
+            ⊎ IsUnknown self.now.core.state.jobs.list id }
+        ensures no { result ≡ false
+            → (self.now.is_gone ≡ false) × (self.now.core.connection.failure ≡ None)
+            × ((job : AJob) × IsTaken self.now.core.state.jobs.list id job) }
     {
         self.is_gone || self.core.has_failed() || self.core.stream_of(id).is_none()
     }
@@ -201,7 +229,8 @@ impl<O: OutboundTransform + Drop, I: InboundTransform + Drop> ServerHeld<O, I> {
         came: &Source,
         cx: &mut Context<'_>,
     ) -> Poll<Result<()>>
-        ensures polls { Polls is_unsent WaitsForRoom (IsSending O.OutboundTransform id) self.old.core sending.old result sending.new self.new.core }
+        ensures polls { Polls is_unsent WaitsForRoom (IsSending O.OutboundTransform id)
+            self.old.core sending.old result sending.new self.new.core }
         ensures registered { OnPending result (Covers cx.new (λ s. s ≡ came.now.id)) }
         ensures kept { Keeps cx.old cx.new }
     {
@@ -210,16 +239,18 @@ impl<O: OutboundTransform + Drop, I: InboundTransform + Drop> ServerHeld<O, I> {
             .poll_sending_on(alloc, core, id, room, sending, came, cx)
     }
 
-    /// Receives from a stream. After the input has ended nobody waits: a receiver gets the items that came, and then once the error
-    /// that the other side is gone.
+    /// Receives from a stream. After the input has ended no task waits: a receiver gets the items that came, and then once the error that
+    /// the other side is gone.
     pub fn poll_receiving(
         &mut self,
         id: JobId,
         came: &Source,
         cx: &mut Context<'_>,
     ) -> Poll<Result<Blob>>
-        ensures receives { self.old.input_ended ≡ false → ReceivesOne self.old.core id (answer_of result) self.new.core }
-        ensures ended { self.old.input_ended ≡ true → ReceivesLast self.old.core id result self.new.core }
+        ensures receives { self.old.input_ended ≡ false
+            → ReceivesOne self.old.core id (answer_of result) self.new.core }
+        ensures ended { self.old.input_ended ≡ true
+            → ReceivesLast self.old.core id result self.new.core }
         ensures registered { OnPending result (Covers cx.new (λ s. s ≡ came.now.id)) }
         ensures kept { Keeps cx.old cx.new }
     {
@@ -261,7 +292,7 @@ impl<O: OutboundTransform + Drop, I: InboundTransform + Drop> ServerHeld<O, I> {
         self.running.len()
     }
 
-    /// Nobody receives from a stream any more.
+    /// Reports that no task receives from a stream any more.
     pub fn drop_receiver(&mut self, id: JobId)
         ensures { self.new.core ≡ unheard self.old.core id }
     {
@@ -271,13 +302,15 @@ impl<O: OutboundTransform + Drop, I: InboundTransform + Drop> ServerHeld<O, I> {
 
     /// Returns whether the input has ended and everything was written. If no handler runs either, nothing more comes of the input.
     pub fn is_answered(&self) -> bool
-        ensures yes { result ≡ true → (self.now.input_ended ≡ true) × (unsent self.now.core.connection.outbox.queue ≡ []) }
-        ensures no { result ≡ false → (self.now.input_ended ≡ false) ⊎ (unsent self.now.core.connection.outbox.queue ≢ []) }
+        ensures yes { result ≡ true
+            → (self.now.input_ended ≡ true) × (unsent self.now.core.connection.outbox.queue ≡ []) }
+        ensures no { result ≡ false
+            → (self.now.input_ended ≡ false) ⊎ (unsent self.now.core.connection.outbox.queue ≢ []) }
     {
         self.input_ended && !self.core.has_unsent()
     }
 
-    /// Has the handlers of requests dropped from now on: the input ended too long ago. Wakes each of them.
+    /// Lets the handlers of requests be dropped from now on: the input ended too long ago. Wakes each of them.
     pub fn let_calls_go(&mut self)
         ensures { self.new ≡ record self.old { running = []; is_gone = true } }
     {
@@ -285,16 +318,17 @@ impl<O: OutboundTransform + Drop, I: InboundTransform + Drop> ServerHeld<O, I> {
         self.running.wake_all();
     }
 
-    /// Tells the core that the input ended, once nothing more comes of what it brought.
+    /// Reports the end of the input to the core, once nothing more comes of the input.
     pub fn finish_input(&mut self)
         ensures ends { Ends self.old.core.connection self.new.core.connection }
-        ensures same { self.new.core ≡ record self.old.core { connection = self.new.core.connection } }
+        ensures same { self.new.core
+            ≡ record self.old.core { connection = self.new.core.connection } }
     {
         self.core.end_of_input();
         self.wake_all();
     }
 
-    /// Takes no more of what comes in.
+    /// Takes no more input.
     pub fn drain(&mut self)
         ensures { self.new ≡ record self.old { core = drained self.old.core; drains = true } }
     {
@@ -302,15 +336,16 @@ impl<O: OutboundTransform + Drop, I: InboundTransform + Drop> ServerHeld<O, I> {
         self.drains = true;
     }
 
-    /// Nobody is left who would read and write: the connection fails, if it hasn't.
+    /// Fails the connection, if it hasn't failed: no task is left that would read and write.
     pub fn abandon(&mut self)
-        ensures { self.new.core ≡ record self.old.core { connection = failing self.old.core.connection (AFailure.Told AnError.LocalClosed) } }
+        ensures { self.new.core
+            ≡ record self.old.core { connection = failing self.old.core.connection (AFailure.Told AnError.LocalClosed) } }
     {
         self.core.fail(Error::LocalClosed);
         self.wake_all();
     }
 
-    /// Wakes everybody, once the connection has failed.
+    /// Wakes all tasks, if the connection has failed.
     fn wake_if_failed(&mut self)
         ensures { self.new.core ≡ self.old.core }
     {
@@ -319,9 +354,10 @@ impl<O: OutboundTransform + Drop, I: InboundTransform + Drop> ServerHeld<O, I> {
         }
     }
 
-    /// Wakes everybody: the connection has failed.
+    /// Wakes all tasks: the connection has failed.
     fn wake_all(&mut self)
-        ensures { self.new ≡ record self.old { running = []; streams = nobody; room = record self.old.room { waiting = []; soonest = None } } }
+        ensures { self.new
+            ≡ record self.old { running = []; streams = nobody; room = record self.old.room { waiting = []; soonest = None } } }
     {
         self.running.wake_all();
         self.streams.wake_all();
@@ -333,7 +369,8 @@ impl<O: OutboundTransform + Drop, I: InboundTransform + Drop> ServerHeld<O, I> {
     /// awaited.
     fn note_taken(&mut self, count: usize, now: u64)
         ensures core { self.new.core ≡ self.old.core }
-        ensures pause { (self.new.pause ≡ None) ⊎ (self.new.pause ≡ pause_end self.old.settings.frame_limit now) }
+        ensures pause { (self.new.pause ≡ None)
+            ⊎ (self.new.pause ≡ pause_end self.old.settings.frame_limit now) }
     {
         self.unbegun = if self.core.jobs_waiting() == 0 {
             0
@@ -358,7 +395,7 @@ impl<O: OutboundTransform + Drop, I: InboundTransform + Drop> ServerHeld<O, I> {
         }
     }
 
-    /// Tells the core the moment, and wakes the tasks whose job has expired by then.
+    /// Reports the moment to the core, and wakes the tasks of jobs that have expired by then.
     fn tick_core(&mut self, now: u64)
         ensures { TicksAndTells O.OutboundTransform self.old.core now self.new.core }
     {
@@ -367,18 +404,20 @@ impl<O: OutboundTransform + Drop, I: InboundTransform + Drop> ServerHeld<O, I> {
         self.wake_if_failed();
     }
 
-    /// Wakes those whose job has expired.
+    /// Wakes the tasks of jobs that have expired.
     fn wake_expired(&mut self)
-        ensures { self.new.core ≡ record self.old.core { state = record self.old.core.state { expired = [] } } }
+        ensures { self.new.core
+            ≡ record self.old.core { state = record self.old.core.state { expired = [] } } }
     {
         while let Some(id) = self.core.next_expired() {
             self.running.wake(id);
         }
     }
 
-    /// Wakes those who receive from streams for which something came.
+    /// Wakes the tasks that receive from streams for which something came.
     fn wake_heard(&mut self)
-        ensures { self.new.core ≡ record self.old.core { state = record self.old.core.state { heard = [] } } }
+        ensures { self.new.core
+            ≡ record self.old.core { state = record self.old.core.state { heard = [] } } }
     {
         while let Some(id) = self.core.next_heard() {
             self.streams.wake_receiver(id);
@@ -396,27 +435,34 @@ impl<O: OutboundTransform + Drop, I: InboundTransform + Drop> Held for ServerHel
     ghost use Rattle.ttrpc_polled.specs.Waiting.{sooner};
     ghost use Rattle.ttrpc_polled_server.specs.Held.{ExpiresAt, LendsAndReports, TakesPiece, TicksAndTells, TicksOrBreaks, broken};
 
-    ghost takes = { λ old piece now count new. TakesPiece O.OutboundTransform I.InboundTransform old.core piece now old.drains count new.core };
+    ghost takes = { λ old piece now count new. TakesPiece O.OutboundTransform I.InboundTransform
+        old.core piece now old.drains count new.core };
 
-    // The core isn't told yet, so the requests that came are still answered. Nobody waits to receive any more.
-    ghost ends = { λ old new. new ≡ record old { input_ended = true; streams = nobody; pause = None } };
+    // The core doesn't learn of the end yet, so the requests that came are still answered. No task waits to receive any more.
+    ghost ends = { λ old new. new
+        ≡ record old { input_ended = true; streams = nobody; pause = None } };
 
     ghost breaks = { λ old kind new. new.core ≡ broken old.core kind };
 
-    ghost lends = { λ old before count after new. LendsAndReports old.core before count after new.core };
+    ghost lends = { λ old before count after new. LendsAndReports old.core
+        before count after new.core };
 
     ghost lendable = { λ held. lendable held.core.connection };
 
     // The connection fails after a pause inside a frame that is above its limit.
-    ghost ticks = { λ old now new. TicksOrBreaks old.pause now (TicksAndTells O.OutboundTransform old.core now new.core) (new.core ≡ broken old.core TimedOut) };
+    ghost ticks = { λ old now new. TicksOrBreaks old.pause now
+        (TicksAndTells O.OutboundTransform old.core now new.core)
+        (new.core ≡ broken old.core TimedOut) };
 
-    ghost expires = { λ held at. (soonest : Option ℕ) × ExpiresAt O.OutboundTransform held.core soonest × (at ≡ sooner soonest held.pause) };
+    ghost expires = { λ held at. (soonest : Option ℕ)
+        × ExpiresAt O.OutboundTransform held.core soonest × (at ≡ sooner soonest held.pause) };
 
     ghost failed = { λ held. is_some held.core.connection.failure };
 
     ghost senders = { λ held. length held.streams.senders };
 
-    ghost wants = { λ held. has_room held.settings (length (filter waits held.core.state.jobs.list)) held.unbegun };
+    ghost wants = { λ held. has_room held.settings
+        (length (filter waits held.core.state.jobs.list)) held.unbegun };
 
     fn take(&mut self, alloc: Global, piece: &[u8], now: u64) -> Option<usize> {
         let drains = self.drains;
@@ -437,7 +483,7 @@ impl<O: OutboundTransform + Drop, I: InboundTransform + Drop> Held for ServerHel
     }
 
     fn broke(&mut self, kind: ErrorKind) {
-        self.core.fail(Error::Nix(kind));
+        self.core.broke(kind);
         self.wake_all();
     }
 
@@ -486,7 +532,7 @@ impl<O: OutboundTransform + Drop, I: InboundTransform + Drop> Held for ServerHel
     }
 }
 
-/// Returns until when a peer may pause that begins a pause inside a frame at this moment.
+/// Returns until when a peer may pause, if its pause inside a frame begins at this moment.
 fn pause_at(settings: &Settings, now: u64) -> Option<u64>
     ensures { result ≡ pause_end settings.now.frame_limit now }
 {

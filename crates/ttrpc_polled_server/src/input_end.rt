@@ -21,7 +21,7 @@ pub struct InputEnd {
     held: Mutex<Waiting>,
 }
 
-/// The wakers of those who wait for it, each under a number.
+/// The wakers of the tasks that wait for the end, each under a number.
 #[derive(Drop)]
 struct Waiting {
     wakers: Wakers,
@@ -41,12 +41,12 @@ impl InputEnd {
         }
     }
 
-    /// Returns whether it has come.
+    /// Returns whether the end has come.
     pub fn has_come(&self) -> bool {
         self.has_come.load(Ordering::SeqCst)
     }
 
-    /// Returns a future that is ready when it has come.
+    /// Returns a future that is ready when the end has come.
     pub fn wait(this: &Arc<InputEnd, Global>) -> Result<InputEnded>
         ensures ok { IfOk result (λ ended. arc_value ended.end ≡ arc_value this.now) }
         ensures err { IfErr result (λ e. e ≡ AnError.NoMemory) }
@@ -57,7 +57,7 @@ impl InputEnd {
         })
     }
 
-    /// Notes that it has come, and wakes all who wait for it.
+    /// Notes that the end has come, and wakes all tasks that wait for it.
     pub(crate) fn come(&self) {
         if self.has_come.swap(true, Ordering::SeqCst) {
             return;
@@ -78,7 +78,7 @@ impl InputEnd {
     }
 }
 
-/// Waits for the end of a connection's input.
+/// A future that waits for the end of a connection's input.
 pub struct InputEnded {
     end: Arc<InputEnd, Global>,
     number: u64,

@@ -1,4 +1,4 @@
-//! The server whose connections and handlers are polled.
+//! The server with polled connections and handlers.
 #![tactic(auto)]
 
 mod connection;

@@ -1,8 +1,8 @@
-//! The macros of services whose handlers are polled.
+//! The macros of services with polled handlers.
 
-/// Handles a request in `MethodHandler::handler`: decodes it, and calls the method of `self.service` with the
-/// context and the value, which gives a future of the answer. It makes the handler's call, whose type is
-/// `Handling<F, Responds<P>>`. The request's type is a path, or a module beside this one and a name in it.
+/// Handles a request in `MethodHandler::handler`: decodes it, and calls the method of `self.service` with the context and the value. The
+/// method returns a future of the answer. The macro makes the handler's call, of type `Handling<F, Responds<P>>`. The request's type is a
+/// path, or a module beside this one and a name in it.
 #[macro_export]
 macro_rules! async_request_handler {
     ($class:ident, $ctx:ident, $req:ident, $req_type:path, $req_fn:ident) => {
@@ -19,9 +19,8 @@ macro_rules! async_request_handler {
     };
 }
 
-/// Handles a stream of a client in `StreamHandler::handler`: calls the method of `self.service` with the context
-/// and a `ServerStreamReceiver`, which gives a future of the answer. It makes the handler's call, whose type is
-/// `Handling<F, EndsBy<P>>`.
+/// Handles a stream of a client in `StreamHandler::handler`: calls the method of `self.service` with the context and a
+/// `ServerStreamReceiver`. The method returns a future of the answer. The macro makes the handler's call, of type `Handling<F, EndsBy<P>>`.
 #[macro_export]
 macro_rules! async_client_streamimg_handler {
     ($class:ident, $ctx:ident, $inner:ident, $req_fn:ident) => {
@@ -35,9 +34,9 @@ macro_rules! async_client_streamimg_handler {
     };
 }
 
-/// Handles a stream of a server in `StreamHandler::handler`: calls the method of `self.service` with the context
-/// and a `ServerStreamOpening`, which is ready with the request and the half to send by. It makes the handler's call, whose
-/// type is `Handling<F, Closes>`. The request's type is a path, or a module beside this one and a name in it.
+/// Handles a stream of a server in `StreamHandler::handler`: calls the method of `self.service` with the context and a
+/// `ServerStreamOpening`. The opening is ready with the request and the half by which to send. The macro makes the handler's call, of type
+/// `Handling<F, Closes>`. The request's type is a path, or a module beside this one and a name in it.
 #[macro_export]
 macro_rules! async_server_streamimg_handler {
     ($class:ident, $ctx:ident, $inner:ident, $req_type:path, $req_fn:ident) => {
@@ -63,8 +62,8 @@ macro_rules! async_server_streamimg_handler {
     };
 }
 
-/// Handles a stream of both sides in `StreamHandler::handler`: calls the method of `self.service` with the context
-/// and a `ServerStream`. It makes the handler's call, whose type is `Handling<F, Closes>`.
+/// Handles a stream of both sides in `StreamHandler::handler`: calls the method of `self.service` with the context and a `ServerStream`.
+/// The macro makes the handler's call, of type `Handling<F, Closes>`.
 #[macro_export]
 macro_rules! async_duplex_streamimg_handler {
     ($class:ident, $ctx:ident, $inner:ident, $req_fn:ident) => {

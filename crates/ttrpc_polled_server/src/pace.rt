@@ -1,14 +1,14 @@
 //! When answers leave while others are not ready.
 ghost use Rattle.std.specs.Prelude.{◌≡◌, ◌≤◌, ◌<◌, ◌+◌, ◌*◌, ◌-◌, ◌^◌, min, true, false};
 
-/// So many answers leave before others are ready, at first.
+/// The number of ready answers that leave before others are ready, at first.
 const FIRST: u32 = 4;
 
 /// The most answers that wait for others.
 const MOST: u32 = 16;
 
-/// Counts the ready answers, and says when they leave together: four at first, then eight, and from then on 16 at a time. So a client
-/// goes on while the other answers are made, and many answers still take few writes.
+/// The count of ready answers, which decides when they leave together: four at first, then eight, and from then on 16 at a time. So a
+/// client goes on while the other answers are made, and many answers still take few writes.
 #[derive(Clone, Copy, Debug)]
 pub(crate) struct Pace {
     pub(crate) ready: u32,
@@ -35,7 +35,9 @@ impl Pace {
 
     /// Returns whether enough answers are ready, and if so counts them as left.
     pub(crate) fn leaves(&mut self) -> bool
-        ensures leave { result ≡ true → (self.old.enough ≤ self.old.ready) × (self.new ≡ record { ready = 0; enough = min (self.old.enough * 2) 16 }) }
+        ensures leave { result ≡ true
+            → (self.old.enough ≤ self.old.ready)
+            × (self.new ≡ record { ready = 0; enough = min (self.old.enough * 2) 16 }) }
         ensures stay { result ≡ false → (self.old.ready < self.old.enough) × (self.new ≡ self.old) }
     {
         if self.ready < self.enough {
@@ -48,7 +50,8 @@ impl Pace {
 
     /// Returns whether any answer is ready, and if so counts them as left.
     pub(crate) fn ends(&mut self) -> bool
-        ensures leave { result ≡ true → (0 < self.old.ready) × (self.new ≡ record self.old { ready = 0 }) }
+        ensures leave { result ≡ true
+            → (0 < self.old.ready) × (self.new ≡ record self.old { ready = 0 }) }
         ensures none { result ≡ false → (self.old.ready ≡ 0) × (self.new ≡ self.old) }
     {
         let is_any = 0 < self.ready;

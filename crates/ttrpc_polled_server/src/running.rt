@@ -1,4 +1,4 @@
-//! A job whose handler runs.
+//! A job with a running handler.
 ghost use Rattle.std.specs.Prelude.{◌≡◌, None};
 
 use crate::ended::Ended;
@@ -11,7 +11,7 @@ use ttrpc_proto::{Response, Result};
 use ttrpc_secure::{InboundTransform, OutboundTransform};
 use ttrpc_server::JobId;
 
-/// What runs for a job.
+/// The handler that runs for a job.
 #[derive(Drop)]
 pub enum Handled<F, G> {
     /// The handler of a method.
@@ -49,7 +49,7 @@ where
     }
 }
 
-/// A job whose handler runs. Its output is the job's number, and how the handler ended. If the handler may be dropped, it is dropped
+/// A job with a running handler. Its output is the job's number, and how the handler ended. If the handler may be dropped, it is dropped
 /// when its job has expired, its connection has failed, or its input ended too long ago.
 #[derive(Drop)]
 pub struct Running<F, G, O, I> {
@@ -73,7 +73,8 @@ where
 
     ghost can_poll = { λ r. HandledCanPoll F.can_poll G.can_poll r.handled };
 
-    ghost needs = { λ r. RunningNeeds F.needs G.needs r.handled r.may_be_dropped (arc_value r.shared).came.id };
+    ghost needs = { λ r. RunningNeeds F.needs G.needs r.handled r.may_be_dropped
+        (arc_value r.shared).came.id };
 
     ghost gives = { λ r given. RunningGives F.gives G.gives r.id r.may_be_dropped r.handled given };
 
@@ -89,7 +90,7 @@ where
     }
 }
 
-/// A job whose handler runs, and how the handler ended, as long as there is no room for that. It is ready once the core was told.
+/// A job with a running handler, and the handler's end while there is no room to report it. It is ready once the core knows the end.
 #[derive(Drop)]
 pub struct Finishing<F, G, O, I> {
     pub running: Running<F, G, O, I>,
@@ -98,7 +99,7 @@ pub struct Finishing<F, G, O, I> {
 }
 
 impl<F, G, O, I> Finishing<F, G, O, I> {
-    /// The job whose handler runs here.
+    /// Makes the job of this running handler.
     pub fn new(running: Running<F, G, O, I>) -> Finishing<F, G, O, I>
         ensures { result ≡ record { running = running; ended = None; place = None } }
     {
@@ -123,26 +124,25 @@ where
     ghost use Rattle.std.specs.Arc.{arc_value};
     ghost use Rattle.ttrpc_polled_server.specs.Handling.{FinishingNeeds, HandledCanPoll, RunningNeeds};
 
-    ghost can_poll = { λ f. f.ended ≡ None → HandledCanPoll F.can_poll G.can_poll f.running.handled };
+    ghost can_poll = { λ f. f.ended ≡ None
+        → HandledCanPoll F.can_poll G.can_poll f.running.handled };
 
     ghost needs = { λ f. FinishingNeeds f.ended
-        (RunningNeeds F.needs G.needs f.running.handled f.running.may_be_dropped (arc_value f.running.shared).came.id) (arc_value f.running.shared).came.id };
+        (RunningNeeds F.needs G.needs f.running.handled f.running.may_be_dropped
+        (arc_value f.running.shared).came.id) (arc_value f.running.shared).came.id };
 
     fn poll(&mut self, cx: &mut Context<'_>) -> Poll<()> {
-        let ended = match self.ended.take() {
-            Some(ended) => ended,
-            None => {
-                let (_, ended) = ready!(self.running.poll(cx));
-                ended
-            }
-        };
-        let (shared, id) = (&self.running.shared, self.running.id);
-        match shared.poll_end(id, &ended, &mut self.place, cx) {
-            Poll::Pending => {
-                self.ended = Some(ended);
-                Poll::Pending
-            }
-            Poll::Ready(()) => Poll::Ready(()),
+        let id = self.running.id;
+        if let Some(ended) = &self.ended {
+            let shared = &self.running.shared;
+            return shared.poll_end(id, ended, &mut self.place, cx);
         }
+        let (_, ended) = ready!(self.running.poll(cx));
+        let shared = &self.running.shared;
+        if shared.poll_end(id, &ended, &mut self.place, cx).is_ready() {
+            return Poll::Ready(());
+        }
+        self.ended = Some(ended);
+        Poll::Pending
     }
 }

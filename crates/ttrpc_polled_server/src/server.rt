@@ -31,8 +31,8 @@ use ttrpc_proto::{Error, Result};
 use ttrpc_secure::{HookOutput, InboundTransform, NoHook, OutboundTransform};
 use ttrpc_transport::{NoWatch, Watch};
 
-/// A server whose connections are polled, which contracts see as what it was built with: its settings, its listener, its services,
-/// its hook, its watch, and what its connections stop by.
+/// A server with polled connections. Contracts see it as the parts it was built with: its settings, its listener, its services, its hook,
+/// its watch, and the state by which its connections stop.
 #[derive(Drop)]
 pub struct Server<R: Timed, M: Drop, T: Drop, A: Drop = NoHook, V: Watch + Drop = NoWatch> {
     rt: R,
@@ -62,7 +62,7 @@ impl<R: Timed, M: Drop, T: Drop, A: Drop, V: Watch + Drop> Model for Server<R, M
 }
 
 impl<R: Timed, M: Drop, T: Drop> Server<R, M, T, NoHook, NoWatch> {
-    /// A server without services and without a listener, whose sockets and timers are those of this runtime.
+    /// Makes a server without services and without a listener, with the sockets and timers of this runtime.
     pub fn new(rt: R, handle: &Handle) -> Result<Server<R, M, T, NoHook, NoWatch>>
         ensures new { IfOk result IsNewServer }
         ensures err { IfErr result (λ e. e ≡ NoMemory) }
@@ -82,8 +82,8 @@ impl<R: Timed, M: Drop, T: Drop> Server<R, M, T, NoHook, NoWatch> {
 }
 
 impl<R: Timed, M: MethodHandler, T: Drop, A: Drop, V: Watch + Drop> Server<R, M, T, A, V> {
-    /// A connection over any reader and writer, with what a hook gave: a future that is to be polled. It ends with the others
-    /// of this server. From here on its services are fixed.
+    /// Makes a connection over any reader and writer, with a hook's output: a future that is to be polled. The connection ends with the
+    /// others of this server. From here on the services are fixed.
     pub fn over<S, W, O, I>(
         &mut self,
         reader: S,
@@ -97,9 +97,12 @@ impl<R: Timed, M: MethodHandler, T: Drop, A: Drop, V: Watch + Drop> Server<R, M,
         I: InboundTransform + Drop,
         T: StreamHandler<ServerShared<O, I>>,
         ensures can { IfOk result (CanPoll M.Call.Future.can_poll T.Call.Future.can_poll) }
-        ensures opened { IfOk result (IsOpened reader writer (facts_of output.connection_data.entries) self.old.services self.old.settings self.old.stop) }
+        ensures opened { IfOk result
+            (IsOpened reader writer (facts_of output.connection_data.entries) self.old.services
+            self.old.settings self.old.stop) }
         ensures err { IfErr result IsNotOpened }
-        ensures fixed { self.new ≡ record self.old { settings = record self.old.settings { is_fixed = true } } }
+        ensures fixed { self.new
+            ≡ record self.old { settings = record self.old.settings { is_fixed = true } } }
     {
         self.settings.is_fixed = true;
         self.served()?.open(reader, writer, output)
@@ -107,19 +110,20 @@ impl<R: Timed, M: MethodHandler, T: Drop, A: Drop, V: Watch + Drop> Server<R, M,
 }
 
 impl<R: Timed, M: Drop, T: Drop, A: Drop, V: Watch + Drop> Server<R, M, T, A, V> {
-    /// Its settings.
+    /// Returns the server's settings.
     pub fn settings(&self) -> &Settings
         ensures { result.now ≡ self.now.settings }
     {
         &self.settings
     }
 
-    /// Listens at an address, `tcp://IP:PORT`, in the place of where it would have listened. Whether each write goes out at
-    /// once is `nodelay`. An address that names no place of TCP is `Others`, and a fault of the system `Nix`.
+    /// Binds the server to an address, `tcp://IP:PORT`, in place of an earlier one. With `nodelay`, each write goes out at once. The error
+    /// is `Others` if the address names no place of TCP, and `Nix` if the system reports a fault.
     pub fn bind(self, sockaddr: &str, nodelay: bool) -> Result<Server<R, M, T, A, V>>
     where
         R: Net,
-        ensures ok { IfOk result (λ server. (listener : AListener) × (listener.nodelay ≡ nodelay) × (server ≡ with_listener self listener)) }
+        ensures ok { IfOk result (λ server. (listener : AListener) × (listener.nodelay ≡ nodelay)
+            × (server ≡ with_listener self listener)) }
         ensures err { IfErr result (λ e. IsNoTcp sockaddr.now e ⊎ IsFault e) }
     {
         let reactor = self.handle.reactor();
@@ -129,7 +133,7 @@ impl<R: Timed, M: Drop, T: Drop, A: Drop, V: Watch + Drop> Server<R, M, T, A, V>
         }
     }
 
-    /// Accepts the connections of this listener, in the place of an earlier one.
+    /// Sets the listener by which the server accepts connections, in place of an earlier one.
     pub fn add_listener(mut self, listener: Listener) -> Server<R, M, T, A, V>
         ensures { result ≡ with_listener self listener }
     {
@@ -137,7 +141,8 @@ impl<R: Timed, M: Drop, T: Drop, A: Drop, V: Watch + Drop> Server<R, M, T, A, V>
         self
     }
 
-    /// Where it will listen, and `None` without a listener or once it has started. A fault of the system is `Nix`.
+    /// Returns the address at which the server will listen. Returns `None` without a listener or after it has started. A fault of the
+    /// system is `Nix`.
     pub fn local_addr(&self) -> Result<Option<SocketAddr>>
         ensures ok { IfOk result (λ address. IsSome address ↔ IsSome self.now.listener) }
         ensures none { self.now.listener ≡ None → result ≡ Ok None }
@@ -149,8 +154,8 @@ impl<R: Timed, M: Drop, T: Drop, A: Drop, V: Watch + Drop> Server<R, M, T, A, V>
         }
     }
 
-    /// Serves these services too, each under its name. One of a name that stands already takes the place of that. Once the
-    /// server has started its services are fixed, and more are refused.
+    /// Adds these services to the server, each under its name. A method or a stream takes the place of an earlier one of its name in
+    /// its service. After the server has started its services are fixed, and more are refused.
     pub fn register_service(
         mut self,
         services: BTreeMap<String, Service<M, T>>,
@@ -160,7 +165,7 @@ impl<R: Timed, M: Drop, T: Drop, A: Drop, V: Watch + Drop> Server<R, M, T, A, V>
     {
         let alloc = self.rt.alloc();
         self.settings.check_register(alloc)?;
-        // Nobody shares them before the first start.
+        // No other owner shares the services before the first start.
         let Some(open) = Arc::get_mut(&mut self.services) else {
             return Err(Error::NoMemory);
         };
@@ -168,10 +173,11 @@ impl<R: Timed, M: Drop, T: Drop, A: Drop, V: Watch + Drop> Server<R, M, T, A, V>
         Ok(self)
     }
 
-    /// Lets this hook look at each connection first. What it gives after 30 seconds comes too late, and the connection is
-    /// closed. While it looks nothing else of its thread goes on: one that never returns holds that for ever.
+    /// Sets a hook that looks at each connection first. If the hook returns after more than 30 seconds, it is too late, and the connection
+    /// is closed. While the hook looks, nothing else of its thread goes on: a hook that never returns holds the thread forever.
     pub fn set_accept_hook<B: Drop>(self, hook: B) -> Result<Server<R, M, T, B, V>>
-        ensures ok { IfOk result (λ server. server ≡ record { settings = self.settings; listener = self.listener; services = self.services; hook = hook; watch = self.watch; stop = self.stop }) }
+        ensures ok { IfOk result (λ server. server
+            ≡ record { settings = self.settings; listener = self.listener; services = self.services; hook = hook; watch = self.watch; stop = self.stop }) }
         ensures err { IfErr result (λ e. e ≡ NoMemory) }
     {
         let Server {
@@ -198,7 +204,8 @@ impl<R: Timed, M: Drop, T: Drop, A: Drop, V: Watch + Drop> Server<R, M, T, A, V>
 
     /// Sets the watch that receives faults that callers can't see: a failed accept, a refusal by the hook, a connection without memory.
     pub fn set_watch<W: Watch + Drop>(self, watch: W) -> Result<Server<R, M, T, A, W>>
-        ensures ok { IfOk result (λ server. server ≡ record { settings = self.settings; listener = self.listener; services = self.services; hook = self.hook; watch = watch; stop = self.stop }) }
+        ensures ok { IfOk result (λ server. server
+            ≡ record { settings = self.settings; listener = self.listener; services = self.services; hook = self.hook; watch = watch; stop = self.stop }) }
         ensures err { IfErr result (λ e. e ≡ NoMemory) }
     {
         let Server {
@@ -223,33 +230,37 @@ impl<R: Timed, M: Drop, T: Drop, A: Drop, V: Watch + Drop> Server<R, M, T, A, V>
         })
     }
 
-    /// How long a connection that ends waits for its handlers.
+    /// Sets how long a connection that ends waits for its handlers.
     pub fn set_connection_limit(mut self, limit: Duration) -> Server<R, M, T, A, V>
-        ensures { result ≡ record self { settings = record self.settings { connection_limit = limit } } }
+        ensures { result
+            ≡ record self { settings = record self.settings { connection_limit = limit } } }
     {
         self.settings.connection_limit = limit;
         self
     }
 
-    /// How long `disconnect` waits for the connections.
+    /// Sets how long `disconnect` waits for the connections.
     pub fn set_disconnect_limit(mut self, limit: Duration) -> Server<R, M, T, A, V>
-        ensures { result ≡ record self { settings = record self.settings { disconnect_limit = limit } } }
+        ensures { result
+            ≡ record self { settings = record self.settings { disconnect_limit = limit } } }
     {
         self.settings.disconnect_limit = limit;
         self
     }
 
-    /// How long it waits to accept again, where the system gives no connection.
+    /// Sets how long the server waits before it accepts again, after the system gave no connection.
     pub fn set_accept_retry_interval(mut self, interval: Duration) -> Server<R, M, T, A, V>
-        ensures { result ≡ record self { settings = record self.settings { accept_retry_interval = interval } } }
+        ensures { result
+            ≡ record self { settings = record self.settings { accept_retry_interval = interval } } }
     {
         self.settings.accept_retry_interval = interval;
         self
     }
 
-    /// Whether a stream that is opened without a payload begins without an item, as peers written in Go mean it.
+    /// Sets whether a stream that is opened without a payload begins without an item, as peers written in Go mean it.
     pub fn set_bare_openings(mut self, bare: bool) -> Server<R, M, T, A, V>
-        ensures { result ≡ record self { settings = record self.settings { bare_openings = bare } } }
+        ensures { result
+            ≡ record self { settings = record self.settings { bare_openings = bare } } }
     {
         self.settings.bare_openings = bare;
         self
@@ -258,7 +269,8 @@ impl<R: Timed, M: Drop, T: Drop, A: Drop, V: Watch + Drop> Server<R, M, T, A, V>
     /// Sets for how long the handlers of requests go on after the input of their connection has ended. After that they are dropped. A
     /// client that only closed its sending half is answered until then. `None` sets no limit.
     pub fn set_half_close_limit(mut self, limit: Option<Duration>) -> Server<R, M, T, A, V>
-        ensures { result ≡ record self { settings = record self.settings { half_close_limit = limit } } }
+        ensures { result
+            ≡ record self { settings = record self.settings { half_close_limit = limit } } }
     {
         self.settings.half_close_limit = limit;
         self
@@ -282,19 +294,24 @@ impl<R: Timed, M: Drop, T: Drop, A: Drop, V: Watch + Drop> Server<R, M, T, A, V>
 
     /// Sets how many bytes of jobs may wait to be begun. While more wait, their connection isn't read. `None` sets no limit.
     pub fn set_waiting_bytes(mut self, most: Option<u64>) -> Server<R, M, T, A, V>
-        ensures { result ≡ record self { settings = record self.settings { waiting_bytes = most } } }
+        ensures { result
+            ≡ record self { settings = record self.settings { waiting_bytes = most } } }
     {
         self.settings.waiting_bytes = most;
         self
     }
 
-    /// Begins to accept: the connections, one after another, each a future that is to be polled. From here on its services are
-    /// fixed. It is refused without a listener, as of a server that has started and didn't stop listening since.
+    /// Begins to accept. Returns the connections, one after another, each a future that is to be polled. From here on the services are
+    /// fixed. Refused without a listener, as for a server that has started and hasn't stopped listening since.
     pub fn start(&mut self) -> Result<Serving<R, M, T, A, V>>
         ensures ok { OnOk result (self.new ≡ listening self.old) }
-        ensures listener { IfOk result (λ serving. IfSome self.old.listener (λ listener. serving.listener ≡ Some listener)) }
-        ensures served { IfOk result (λ serving. (serving.with.settings ≡ self.old.settings) × (arc_value serving.with.services ≡ self.old.services) × (arc_value serving.with.hook ≡ self.old.hook)
-            × (arc_value serving.with.watch ≡ self.old.watch) × (arc_value serving.with.stop ≡ self.old.stop)) }
+        ensures listener { IfOk result
+            (λ serving. IfSome self.old.listener (λ listener. serving.listener ≡ Some listener)) }
+        ensures served { IfOk result (λ serving. (serving.with.settings ≡ self.old.settings)
+            × (arc_value serving.with.services ≡ self.old.services)
+            × (arc_value serving.with.hook ≡ self.old.hook)
+            × (arc_value serving.with.watch ≡ self.old.watch)
+            × (arc_value serving.with.stop ≡ self.old.stop)) }
         ensures refused { IfErr result (IsNotStarted self.old.listener) }
     {
         self.restore_listener();
@@ -313,15 +330,15 @@ impl<R: Timed, M: Drop, T: Drop, A: Drop, V: Watch + Drop> Server<R, M, T, A, V>
         Ok(serving)
     }
 
-    /// What each of its connections is served with: all that it was built with.
+    /// Makes the service for each connection, of all parts that the server was built with.
     fn served(&self) -> Result<Served<R, M, T, A, V>>
-        // its settings, its services, its hook, and what its connections stop by
+        // the server's settings, its services, its hook, its watch, and the state by which its connections stop
         ensures settings { IfOk result (λ with. with.settings ≡ self.now.settings) }
         ensures services { IfOk result (λ with. arc_value with.services ≡ self.now.services) }
         ensures hook { IfOk result (λ with. arc_value with.hook ≡ self.now.hook) }
         ensures watch { IfOk result (λ with. arc_value with.watch ≡ self.now.watch) }
         ensures stop { IfOk result (λ with. arc_value with.stop ≡ self.now.stop) }
-        // An error is want of memory.
+        // An error means that memory was refused.
         ensures err { IfErr result (λ e. e ≡ NoMemory) }
     {
         Ok(Served {
@@ -335,7 +352,7 @@ impl<R: Timed, M: Drop, T: Drop, A: Drop, V: Watch + Drop> Server<R, M, T, A, V>
         })
     }
 
-    /// Takes the listener that came back as it stopped listening, where there is no other.
+    /// Takes the listener that came back when the server stopped listening, if there is no other.
     fn restore_listener(&mut self)
         ensures listener { IsSome self.old.listener → self.new ≡ self.old }
         ensures rest { self.new ≡ record self.old { listener = self.new.listener } }
@@ -345,8 +362,8 @@ impl<R: Timed, M: Drop, T: Drop, A: Drop, V: Watch + Drop> Server<R, M, T, A, V>
         }
     }
 
-    /// Accepts no more connections, and goes on with those that are open. Ready once the listener is back, with which the
-    /// server may start again. Where it doesn't listen nothing happens.
+    /// Stops accepting connections, and goes on with those that are open. Ready once the listener is back, with which the server may start
+    /// again. If the server doesn't listen, nothing happens.
     pub fn stop_listen(&mut self) -> Result<StopListen>
         ensures ok { OnOk result (self.new ≡ silent self.old) }
         ensures stops { IfOk result (StopsListening self.old.stop self.old.settings.is_listening) }
@@ -362,11 +379,12 @@ impl<R: Timed, M: Drop, T: Drop, A: Drop, V: Watch + Drop> Server<R, M, T, A, V>
         Ok(StopListen::new(stop, is_listening))
     }
 
-    /// Ends all connections: each takes no more requests, and waits for its handlers for a limited time. Ready once they have
-    /// ended, or by `Others("waiters are left")` behind its own limit.
+    /// Ends all connections: each takes no more requests, and waits for its handlers for a limited time. Ready once they have ended, or
+    /// with `Others("waiters are left")` after its own limit.
     pub fn disconnect(&mut self) -> Result<Disconnect>
         ensures same { self.new ≡ self.old }
-        ensures ends { IfOk result (EndsConnections self.old.stop self.old.settings.disconnect_limit) }
+        ensures ends { IfOk result
+            (EndsConnections self.old.stop self.old.settings.disconnect_limit) }
         ensures err { IfErr result IsLack }
     {
         let limit = self.settings.disconnect_limit;
@@ -381,7 +399,8 @@ impl<R: Timed, M: Drop, T: Drop, A: Drop, V: Watch + Drop> Server<R, M, T, A, V>
     /// Stops listening, closes the listener, and ends all connections.
     pub fn shutdown(&mut self) -> Result<Shutdown>
         ensures ok { OnOk result (self.new ≡ record (silent self.old) { listener = None }) }
-        ensures stops { IfOk result (IsShutdown self.old.stop self.old.settings.is_listening self.old.settings.disconnect_limit) }
+        ensures stops { IfOk result (IsShutdown self.old.stop
+            self.old.settings.is_listening self.old.settings.disconnect_limit) }
         ensures err { IfErr result IsLack }
     {
         let connections = self.disconnect()?;

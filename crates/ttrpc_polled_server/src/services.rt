@@ -19,7 +19,7 @@ pub struct Service<M: Drop, T: Drop> {
 }
 
 impl<M: Drop, T: Drop> Service<M, T> {
-    /// A service without methods and streams. Takes no memory.
+    /// Makes a service without methods and streams. Takes no memory.
     pub fn new(alloc: Global) -> Service<M, T>
         ensures { (result.methods.entries ≡ []) × (result.streams.entries ≡ []) }
     {
@@ -30,7 +30,7 @@ impl<M: Drop, T: Drop> Service<M, T> {
     }
 }
 
-/// Services, each under its name, which contracts see as the handlers of their methods and of their streams.
+/// Services, each under its name. Contracts see them as the handlers of their methods and of their streams.
 #[derive(Drop)]
 pub struct Services<M: Drop, T: Drop> {
     names: BTreeSet<String>,
@@ -47,7 +47,7 @@ impl<M: Drop, T: Drop> Model for Services<M, T> {
 }
 
 impl<M: Drop, T: Drop> Services<M, T> {
-    /// No services. Takes no memory.
+    /// Makes an empty collection of services. Takes no memory.
     pub fn new(alloc: Global) -> Services<M, T>
         ensures { result ≡ record { methods = []; streams = [] } }
     {
@@ -58,8 +58,8 @@ impl<M: Drop, T: Drop> Services<M, T> {
         }
     }
 
-    /// Adds these services to what stands. A method or a stream of a name that its service has already takes the place of
-    /// that. At an `Err` some of them may have been added.
+    /// Adds these services to those that there are. A method or a stream takes the place of an earlier one of its name in its service. At
+    /// an `Err` some of them may have been added.
     pub fn add_all(
         &mut self,
         alloc: Global,
@@ -84,24 +84,26 @@ impl<M: Drop, T: Drop> Services<M, T> {
         Ok(())
     }
 
-    /// The handler of this method, if there is one. Takes no memory.
+    /// Returns the handler of this method, if there is one. Takes no memory.
     pub fn method(&self, service: &str, method: &str) -> Option<&M>
         ensures { option_copied result ≡ handler_of self.now.methods service.now method.now }
     {
         self.methods.get(service, method)
     }
 
-    /// The handler of this stream, if there is one. Takes no memory.
+    /// Returns the handler of this stream, if there is one. Takes no memory.
     pub fn stream(&self, service: &str, stream: &str) -> Option<&T>
         ensures { option_copied result ≡ handler_of self.now.streams service.now stream.now }
     {
         self.streams.get(service, stream)
     }
 
-    /// The names of the services, of their methods and of their streams, for a core.
+    /// Returns the names of the services, of their methods and of their streams, for a core.
     pub fn registry(&self, alloc: Global) -> Result<Registry, AllocError>
-        ensures methods { IfOk result (λ registry. (s m : List ℕ) → has_method registry s m ≡ is_some (handler_of self.now.methods s m)) }
-        ensures streams { IfOk result (λ registry. (s n : List ℕ) → has_stream registry s n ≡ is_some (handler_of self.now.streams s n)) }
+        ensures methods { IfOk result (λ registry. (s m : List ℕ)
+            → has_method registry s m ≡ is_some (handler_of self.now.methods s m)) }
+        ensures streams { IfOk result (λ registry. (s n : List ℕ)
+            → has_stream registry s n ≡ is_some (handler_of self.now.streams s n)) }
     {
         let mut registry = self.methods.registry(alloc)?;
         self.streams.name_in(&mut registry, alloc, Named::Streams)?;
@@ -109,9 +111,10 @@ impl<M: Drop, T: Drop> Services<M, T> {
         Ok(registry)
     }
 
-    /// Gives the registry the names of all services, also of those without methods and streams.
+    /// Adds the names of all services to the registry, even of services without methods and streams.
     fn name_all(&self, registry: &mut Registry, alloc: Global) -> Result<(), AllocError>
-        ensures methods { (s m : List ℕ) → has_method registry.new s m ≡ has_method registry.old s m }
+        ensures methods { (s m : List ℕ)
+            → has_method registry.new s m ≡ has_method registry.old s m }
         ensures streams { registry.new.streams ≡ registry.old.streams }
     {
         for name in self.names.iter() {

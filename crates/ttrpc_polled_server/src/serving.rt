@@ -46,7 +46,7 @@ pub type TcpServerConnection<R, M, T, O, I> = ServerConnection<
     I,
 >;
 
-/// What a server serves its connections with.
+/// The parts with which a server serves its connections.
 #[derive(Drop)]
 pub(crate) struct Service<R, M: Drop, T: Drop, A, V> {
     pub(crate) rt: R,
@@ -59,7 +59,7 @@ pub(crate) struct Service<R, M: Drop, T: Drop, A, V> {
 }
 
 impl<R: Timed, M: MethodHandler, T: Drop, A, V> Service<R, M, T, A, V> {
-    /// A connection over this reader and this writer, with what a hook gave.
+    /// Makes a connection over this reader and this writer, with a hook's output.
     pub(crate) fn open<S, W, O, I>(
         &self,
         reader: S,
@@ -73,7 +73,9 @@ impl<R: Timed, M: MethodHandler, T: Drop, A, V> Service<R, M, T, A, V> {
         I: InboundTransform + Drop,
         T: StreamHandler<ServerShared<O, I>>,
         ensures can { IfOk result (CanPoll M.Call.Future.can_poll T.Call.Future.can_poll) }
-        ensures opened { IfOk result (IsOpened reader writer (facts_of output.connection_data.entries) (arc_value self.now.services) self.now.settings (arc_value self.now.stop)) }
+        ensures opened { IfOk result
+            (IsOpened reader writer (facts_of output.connection_data.entries)
+            (arc_value self.now.services) self.now.settings (arc_value self.now.stop)) }
         ensures err { IfErr result IsNotOpened }
     {
         let HookOutput {
@@ -88,7 +90,7 @@ impl<R: Timed, M: MethodHandler, T: Drop, A, V> Service<R, M, T, A, V> {
         ServerConnection::new(self.rt.clone()?, link, parts)
     }
 
-    /// A core between these halves, to be shared.
+    /// Makes a core between these halves, to be shared.
     fn shared<O, I>(
         &self,
         outbound: O,
@@ -102,13 +104,13 @@ impl<R: Timed, M: MethodHandler, T: Drop, A, V> Service<R, M, T, A, V> {
     {
         let alloc = self.rt.alloc();
         let context = ConnectionContext::of_halves(alloc, outbound, inbound);
-        let core = ServerCore::new(alloc, Rules::Async, self.registry(alloc)?, context);
+        let core = ServerCore::new(alloc, Rules::Async, self.registry(alloc)?, context)?;
         let end = Arc::try_clone(input_end)?;
         let shared = ServerShared::new(alloc, core, self.settings, end);
         Ok(Arc::new(alloc, shared)?)
     }
 
-    /// What reads and writes for a core.
+    /// Makes the link that reads and writes for a core.
     fn link<S, W, O, I>(
         &self,
         shared: &Arc<ServerShared<O, I>, Global>,
@@ -120,15 +122,17 @@ impl<R: Timed, M: MethodHandler, T: Drop, A, V> Service<R, M, T, A, V> {
         W: AsyncWrite,
         O: OutboundTransform + Drop,
         I: InboundTransform + Drop,
-        ensures ok { IfOk result (λ link. (arc_value link.shared ≡ arc_value shared.now) × (link.inlet.reader ≡ reader) × (link.inlet.piece ≡ []) × (link.is_reading ≡ true)
-            × (link.outlet.writer ≡ writer) × (link.outlet.kept ≡ []) × (link.alarm.set_for ≡ None)) }
+        ensures ok { IfOk result (λ link. (arc_value link.shared ≡ arc_value shared.now)
+            × (link.inlet.reader ≡ reader) × (link.inlet.piece ≡ []) × (link.is_reading ≡ true)
+            × (link.outlet.writer ≡ writer) × (link.outlet.kept ≡ [])
+            × (link.alarm.set_for ≡ None)) }
         ensures err { IfErr result IsNotMade }
     {
         let line = Arc::try_clone(shared)?;
         Link::new(self.rt.clone()?, &self.handle, line, reader, writer)
     }
 
-    /// What a connection is made of beside that.
+    /// Makes the other parts of a connection.
     fn parts<O, I>(
         &self,
         shared: Arc<ServerShared<O, I>, Global>,
@@ -138,8 +142,12 @@ impl<R: Timed, M: MethodHandler, T: Drop, A, V> Service<R, M, T, A, V> {
     where
         O: OutboundTransform + Drop,
         I: InboundTransform + Drop,
-        ensures ok { IfOk result (λ parts. (parts.shared ≡ shared) × (arc_value parts.services ≡ arc_value self.now.services)
-            × (arc_value parts.connection_data ≡ connection_data) × (arc_value parts.seat.stop ≡ arc_value self.now.stop) × (parts.limit ≡ self.now.settings.connection_limit) × (parts.half_close ≡ self.now.settings.half_close_limit)) }
+        ensures ok { IfOk result (λ parts. (parts.shared ≡ shared)
+            × (arc_value parts.services ≡ arc_value self.now.services)
+            × (arc_value parts.connection_data ≡ connection_data)
+            × (arc_value parts.seat.stop ≡ arc_value self.now.stop)
+            × (parts.limit ≡ self.now.settings.connection_limit)
+            × (parts.half_close ≡ self.now.settings.half_close_limit)) }
         ensures err { IfErr result IsNotOpened }
     {
         Ok(Parts {
@@ -154,7 +162,7 @@ impl<R: Timed, M: MethodHandler, T: Drop, A, V> Service<R, M, T, A, V> {
         })
     }
 
-    /// The names of what is served, for a core.
+    /// Returns the names of everything that is served, for a core.
     fn registry(&self, alloc: Global) -> Result<Registry>
         ensures { IfErr result (λ e. e ≡ AnError.NoMemory) }
     {
@@ -167,7 +175,7 @@ impl<R: Timed, M: MethodHandler, T: Drop, A, V> Service<R, M, T, A, V> {
 /// The connections that a server accepts, each as a future that is to be polled, until the server listens no more.
 pub struct Serving<R: Timed, M: Drop, T: Drop, A: Drop, V: Watch + Drop = NoWatch> {
     with: Service<R, M, T, A, V>,
-    // None after it was given back, because no more connections are to be accepted.
+    // `None` after it was given back, because no more connections are to be accepted.
     listener: Option<Listener>,
     number: u64,
     rests: bool,
@@ -176,9 +184,10 @@ pub struct Serving<R: Timed, M: Drop, T: Drop, A: Drop, V: Watch + Drop = NoWatc
 }
 
 impl<R: Timed, M: Drop, T: Drop, A: Drop, V: Watch + Drop> Serving<R, M, T, A, V> {
-    /// Those of this listener.
+    /// Makes the connections of this listener.
     pub(crate) fn new(with: Service<R, M, T, A, V>, listener: Listener, rest: Alarm) -> Self
-        ensures { (result.with ≡ with) × (result.listener ≡ Some listener) × (result.rests ≡ false) }
+        ensures { (result.with ≡ with) × (result.listener ≡ Some listener)
+            × (result.rests ≡ false) }
     {
         Serving {
             number: with.stop.take_number(),
@@ -190,8 +199,8 @@ impl<R: Timed, M: Drop, T: Drop, A: Drop, V: Watch + Drop> Serving<R, M, T, A, V
         }
     }
 
-    /// The next socket, and none once it listens no more. Behind a fault of the system it rests, until its interval is over or
-    /// a connection has ended, by which a descriptor is free.
+    /// Returns the next socket, and none once the server listens no more. After a fault of the system the server rests, until its interval
+    /// is over or a connection has ended, so that a descriptor is free.
     fn poll_socket(&mut self, cx: &mut Context<'_>) -> Poll<Option<Socket>>
         ensures registered { OnPending result (Covers cx.new (ServingNeeds self.new)) }
         ensures kept { Keeps cx.old cx.new }
@@ -221,7 +230,7 @@ impl<R: Timed, M: Drop, T: Drop, A: Drop, V: Watch + Drop> Serving<R, M, T, A, V
         Poll::Ready(())
     }
 
-    /// Accepts a connection. After a passing fault it tries again at once; after any other it rests first.
+    /// Accepts a connection. After a passing fault the server tries again at once; after any other it rests first.
     fn poll_accept(&mut self, cx: &mut Context<'_>) -> Poll<Option<Socket>>
         requires { self.old.rests ≡ false }
         ensures registered { OnPending result (Covers cx.new (AcceptNeeds self.new)) }
@@ -253,7 +262,7 @@ impl<R: Timed, M: Drop, T: Drop, A: Drop, V: Watch + Drop> Serving<R, M, T, A, V
         }
     }
 
-    /// The system gave no connection.
+    /// Begins a rest, since the system gave no connection.
     fn begin_rest(&mut self)
         ensures { (self.new.with ≡ self.old.with) × (self.new.listener ≡ self.old.listener) }
     {
@@ -274,10 +283,12 @@ where
     M: MethodHandler,
     T: StreamHandler<ServerShared<O, I>>,
 {
-    /// Begins the connection of an accepted socket. If the hook refuses it, the watch is told.
+    /// Begins the connection of an accepted socket. If the hook refuses it, the watch learns of that.
     fn begin(&self, socket: Socket) -> Result<TcpServerConnection<R, M, T, O, I>>
         ensures can { IfOk result (CanPoll M.Call.Future.can_poll T.Call.Future.can_poll) }
-        ensures accepted { IfOk result (IsAccepted (A.gives (arc_value self.now.with.hook) socket) (arc_value self.now.with.services) self.now.with.settings (arc_value self.now.with.stop)) }
+        ensures accepted { IfOk result (IsAccepted (A.gives (arc_value self.now.with.hook) socket)
+            (arc_value self.now.with.services) self.now.with.settings
+            (arc_value self.now.with.stop)) }
     {
         let with = &self.with;
         let alloc = with.rt.alloc();
@@ -292,14 +303,16 @@ where
         self.open(socket, output)
     }
 
-    /// Opens the connection of an accepted socket. If the system or memory refuses, the watch is told.
+    /// Opens the connection of an accepted socket. If the system or memory refuses, the watch learns of that.
     fn open(
         &self,
         socket: Socket,
         output: HookOutput<O, I>,
     ) -> Result<TcpServerConnection<R, M, T, O, I>>
         ensures can { IfOk result (CanPoll M.Call.Future.can_poll T.Call.Future.can_poll) }
-        ensures opened { IfOk result (λ c. (reader : _) × (writer : _) × IsOpened reader writer (facts_of output.connection_data.entries) (arc_value self.now.with.services) self.now.with.settings (arc_value self.now.with.stop) c) }
+        ensures opened { IfOk result (λ c. (reader : _) × (writer : _) × IsOpened reader writer
+            (facts_of output.connection_data.entries) (arc_value self.now.with.services)
+            self.now.with.settings (arc_value self.now.with.stop) c) }
     {
         match self.open_split(socket, output) {
             Ok(connection) => Ok(connection),
@@ -317,7 +330,9 @@ where
         output: HookOutput<O, I>,
     ) -> Result<TcpServerConnection<R, M, T, O, I>>
         ensures can { IfOk result (CanPoll M.Call.Future.can_poll T.Call.Future.can_poll) }
-        ensures opened { IfOk result (λ c. (reader : _) × (writer : _) × IsOpened reader writer (facts_of output.connection_data.entries) (arc_value self.now.with.services) self.now.with.settings (arc_value self.now.with.stop) c) }
+        ensures opened { IfOk result (λ c. (reader : _) × (writer : _) × IsOpened reader writer
+            (facts_of output.connection_data.entries) (arc_value self.now.with.services)
+            self.now.with.settings (arc_value self.now.with.stop) c) }
     {
         let (reader, writer) = socket.into_split()?;
         self.with.open(reader, writer, output)
@@ -339,7 +354,8 @@ where
 
     ghost needs = { ServingNeeds };
 
-    ghost yields = { λ _ _ last. IfSome last (CanPoll M.Call.Future.can_poll T.Call.Future.can_poll) };
+    ghost yields = { λ _ _ last. IfSome last
+        (CanPoll M.Call.Future.can_poll T.Call.Future.can_poll) };
 
     fn poll_next(
         &mut self,

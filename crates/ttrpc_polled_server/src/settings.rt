@@ -6,53 +6,52 @@ use std::alloc::Global;
 use std::time::Duration;
 use ttrpc_proto::{Error, Result, Text};
 
-/// How long a connection that ends waits for its handlers, in seconds.
+/// The time that a connection that ends waits for its handlers, in seconds.
 const CONNECTION_SECONDS: u64 = 5;
 
-/// How long a server that disconnects waits for its connections, in seconds.
+/// The time that a server that disconnects waits for its connections, in seconds.
 const SERVER_SECONDS: u64 = 10;
 
-/// How long a server waits to accept again behind a fault, in seconds.
+/// The time that a server waits before it accepts again after a fault, in seconds.
 const ACCEPT_SECONDS: u64 = 10;
 
-/// For how many seconds the handlers of requests go on after the input has ended.
+/// The time for which the handlers of requests go on after the input has ended, in seconds.
 const HALF_CLOSE_SECONDS: u64 = 5;
 
 /// The most jobs of a connection that wait to be begun while the connection is read.
 const WAITING_JOBS: u64 = 4096;
 
-/// The most bytes of such jobs.
+/// The most bytes of jobs that wait to be begun while their connection is read.
 const WAITING_BYTES: u64 = 8_388_608;
 
-/// The settings of a server, and what it has begun.
+/// The settings of a server, and the state of its calls.
 #[derive(Clone, Copy, Debug, PartialEq, Eq)]
 pub struct Settings {
-    /// How long a connection that ends waits for its handlers: 5 seconds, where nothing is set.
+    /// The time that a connection that ends waits for its handlers: 5 seconds by default.
     pub connection_limit: Duration,
-    /// How long a server that disconnects waits for its connections: 10 seconds, where nothing is set.
+    /// The time that a server that disconnects waits for its connections: 10 seconds by default.
     pub disconnect_limit: Duration,
-    /// How long a server waits to accept again, where the system gives no connection: 10 seconds, where nothing is set.
+    /// The time that a server waits before it accepts again, after the system gave no connection: 10 seconds by default.
     pub accept_retry_interval: Duration,
-    /// Whether a stream that is opened without a payload begins without an item, as peers written in Go mean it. It isn't so,
-    /// where nothing is set.
+    /// True if a stream that is opened without a payload begins without an item, as peers written in Go mean it. False by default.
     pub bare_openings: bool,
-    /// For how long the handlers of requests go on after the input of their connection has ended; `None` is no limit. 5 seconds by
+    /// The time for which the handlers of requests go on after the input of their connection has ended; `None` is no limit. 5 seconds by
     /// default.
     pub half_close_limit: Option<Duration>,
-    /// For how long a peer may pause inside a frame; `None`, the default, is no limit.
+    /// The longest time that a peer may pause inside a frame; `None`, the default, is no limit.
     pub frame_limit: Option<Duration>,
     /// The most jobs of a connection that wait to be begun while the connection is read; `None` is no limit. 4,096 by default.
     pub waiting_jobs: Option<u64>,
     /// The most bytes of such jobs; `None` is no limit. 8 MiB by default.
     pub waiting_bytes: Option<u64>,
-    /// Whether it accepts connections.
+    /// True if the server accepts connections.
     pub is_listening: bool,
-    /// Whether its services are fixed.
+    /// True if the server's services are fixed.
     pub is_fixed: bool,
 }
 
 impl Settings {
-    /// Those of a server for which nothing is set.
+    /// Makes the settings of a server for which nothing is set.
     pub fn new() -> Settings
         ensures { IsNewSettings result }
     {
@@ -77,7 +76,7 @@ impl Settings {
         is_within(self.waiting_jobs, jobs) && is_within(self.waiting_bytes, bytes)
     }
 
-    /// Whether services may be registered, or that they may not once the server has started.
+    /// Checks that services may be registered, which is refused after the server has started.
     pub fn check_register(&self, alloc: Global) -> Result<()>
         ensures ok { OnOk result (self.now.is_fixed ≡ false) }
         ensures err { IfErr result (λ e. (self.now.is_fixed ≡ true) × IsFixed e) }
@@ -99,14 +98,14 @@ fn is_within(limit: Option<u64>, count: u64) -> bool
     }
 }
 
-/// That a server has no listener to start with.
+/// Makes the error of a server that has no listener to start with.
 pub(crate) fn unbound_error(alloc: Global) -> Error
     ensures { IsUnbound result }
 {
     told(alloc, "ttrpc-rust server started with no bound listener")
 }
 
-/// The error of this text, or `NoMemory` where memory for it was refused.
+/// Makes the error with this text, or `NoMemory` if memory for the text was refused.
 fn told(alloc: Global, text: &str) -> Error
     ensures { IsToldBy text.now result }
 {

@@ -1,4 +1,4 @@
-//! What the future of a server's connection and the streams of its jobs share.
+//! The state that the future of a server's connection and the streams of its jobs share.
 ghost use Rattle.std.specs.Prelude.{◌≡◌};
 ghost use Rattle.futures.specs.Poll.{OnPending};
 ghost use Rattle.futures.specs.Task.{Covers, Keeps};
@@ -17,18 +17,18 @@ use ttrpc_secure::{InboundTransform, OutboundTransform};
 use ttrpc_server::{JobId, ServerCore};
 use ttrpc_wire::Blob;
 
-/// What the future of a server's connection and the streams of its jobs share. Nobody reads or writes while it has the lock.
+/// The state that the future of a server's connection and the streams of its jobs share. No task reads or writes while it holds the lock.
 #[derive(Drop)]
 pub struct ServerShared<O, I> {
-    /// Handlers wait at it for what comes for a stream, for frames that leave, and for the end of their time.
+    /// The source at which handlers wait for things that come for a stream, for frames that leave, and for the end of their time.
     pub came: Source,
-    /// The connection's future waits at it for something to write.
+    /// The source at which the connection's future waits for something to write.
     pub asked: Source,
     pub held: Mutex<ServerHeld<O, I>>,
 }
 
 impl<O: OutboundTransform + Drop, I: InboundTransform + Drop> ServerShared<O, I> {
-    /// Shares this core, with these settings. `input_end` is told when the input has ended.
+    /// Makes the shared state of this core, with these settings. `input_end` learns when the input has ended.
     pub fn new(
         alloc: Global,
         core: ServerCore<O, I>,
@@ -57,8 +57,8 @@ impl<O: OutboundTransform + Drop, I: InboundTransform + Drop> ServerShared<O, I>
 }
 
 impl<O: OutboundTransform + Drop, I: InboundTransform + Drop> ServerShared<O, I> {
-    /// Tells the core how the handler of the job of this number ended. Pending: there is no room for that, and the caller, whose place
-    /// is then given, is woken once bytes have left.
+    /// Reports to the core how the handler of the job of this number ended. If pending, there is no room for the report. The caller, at the
+    /// place that `place` then has, is woken once bytes have left.
     pub fn poll_end(
         &self,
         id: JobId,

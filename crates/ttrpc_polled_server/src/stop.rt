@@ -1,4 +1,4 @@
-//! How a server is stopped, and how its connections are told.
+//! How a server is stopped, and how its connections learn of it.
 ghost use Rattle.std.specs.Prelude.{◌≡◌, ◌⊎◌, IsFalse, IfErr, IfOk};
 ghost use Rattle.std.specs.Arc.{arc_value};
 ghost use Rattle.futures.specs.Task.{Hears, IsArmed, Keeps};
@@ -21,33 +21,33 @@ use ttrpc_polled::{Listener, Wakers};
 use ttrpc_proto::{Error, Result, Text};
 use ttrpc_shutdown::{Notifier, Waiter, new};
 
-/// What a server, its connections and those who stop it share.
+/// The state that a server, its connections and the tasks that stop it share.
 #[derive(Drop)]
 pub struct Stop {
-    /// The connections, and whoever accepts them, wait at it to be told.
+    /// The source at which the connections, and the task that accepts them, wait for the request to stop.
     pub told: Source,
-    /// Those wait at it who want a connection or the listener to be done.
+    /// The source at which tasks wait for the end of a connection or for the return of the listener.
     pub left: Source,
     held: Mutex<Places>,
 }
 
-/// Who waits, and the counters of connections.
+/// The waiting tasks, and the counters of connections.
 #[derive(Drop)]
 struct Places {
-    /// None once all connections have ended behind a `disconnect`.
+    /// `None` once all connections have ended after a `disconnect`.
     notifier: Option<Notifier>,
     seats: BTreeMap<u64, Option<Waker>>,
     next: u64,
     ended: u64,
     is_deaf: bool,
-    // The wakers of those who wait, each under a number.
+    // The wakers of waiting tasks, each under a number.
     accepts: Wakers,
     rests: Wakers,
     stops: Wakers,
     returned: Option<Listener>,
 }
 
-/// A connection's place. The connection counts until it is dropped.
+/// A connection's place. The connection counts until its place is dropped.
 pub struct Seat {
     stop: Arc<Stop, Global>,
     number: u64,
@@ -55,7 +55,7 @@ pub struct Seat {
 }
 
 impl Stop {
-    /// Nothing is stopped, and there are no connections.
+    /// Makes the state of a server that isn't stopped, and has no connections.
     pub fn new(alloc: Global) -> Result<Stop>
         ensures err { IfErr result (λ e. e ≡ AnError.NoMemory) }
     {
@@ -78,7 +78,7 @@ impl Stop {
         })
     }
 
-    /// A place for a connection. `LocalClosed` once all have ended behind a `disconnect`.
+    /// Makes a place for a connection. The error is `LocalClosed` once all connections have ended after a `disconnect`.
     pub fn seat(this: &Arc<Stop, Global>) -> Result<Seat>
         ensures ok { IfOk result (λ seat. arc_value seat.stop ≡ arc_value this.now) }
         ensures err { IfErr result (λ e. (e ≡ AnError.NoMemory) ⊎ (e ≡ AnError.LocalClosed)) }
@@ -102,7 +102,7 @@ impl Stop {
         })
     }
 
-    /// Returns a number that nobody waits under yet.
+    /// Returns a number under which no task waits yet.
     pub fn take_number(&self) -> u64 {
         let Some(mut guard) = lock(&self.held) else {
             return u64::MAX;
@@ -113,14 +113,14 @@ impl Stop {
         number
     }
 
-    /// Connections are to be accepted from now on.
+    /// Allows connections to be accepted from now on.
     pub fn listen(&self) {
         if let Some(mut guard) = lock(&self.held) {
             (&mut *guard).is_deaf = false;
         }
     }
 
-    /// No more connections are to be accepted.
+    /// Stops connections from being accepted.
     pub fn stop_listen(&self) {
         if let Some(mut guard) = lock(&self.held) {
             let places = &mut *guard;
@@ -129,7 +129,7 @@ impl Stop {
         }
     }
 
-    /// All connections are to end.
+    /// Asks all connections to end.
     pub fn tell(&self) {
         if let Some(mut guard) = lock(&self.held) {
             let places = &mut *guard;
@@ -174,7 +174,7 @@ impl Stop {
         false
     }
 
-    /// How many connections have ended.
+    /// Returns how many connections have ended.
     pub fn ended(&self) -> u64 {
         match lock(&self.held) {
             Some(guard) => guard.ended,
@@ -216,8 +216,8 @@ impl Stop {
         false
     }
 
-    /// Whether all connections have ended, by the count of the notifier, which isn't needed then any more. If not, the task is
-    /// told once one more has. It waits under this number.
+    /// Returns whether all connections have ended, by the count of the notifier, which isn't needed any more then. If not, the task is
+    /// woken when one more has; it waits under `number`.
     fn have_all_ended(&self, alloc: Global, number: u64, cx: &mut Context<'_>) -> bool
         ensures waits { IsFalse result → IsArmed cx.new × Hears cx.new self.now.left.id }
         ensures kept { Keeps cx.old cx.new }
@@ -242,9 +242,10 @@ impl Stop {
 }
 
 impl Seat {
-    /// Whether the connection is to end. If not, its task is told once it is.
+    /// Returns whether the connection is to end. If not, its task is woken once it is.
     pub fn is_told(&mut self, cx: &mut Context<'_>) -> bool
-        ensures waits { IsFalse result → IsArmed cx.new × Hears cx.new (arc_value self.new.stop).told.id }
+        ensures waits { IsFalse result
+            → IsArmed cx.new × Hears cx.new (arc_value self.new.stop).told.id }
         ensures stop { self.new.stop ≡ self.old.stop }
         ensures kept { Keeps cx.old cx.new }
     {
@@ -287,7 +288,7 @@ impl Drop for Seat {
     }
 }
 
-/// The listener of a server, on its way back. Ready once connections are accepted no more.
+/// The listener of a server, on its way back. Ready once no more connections are accepted.
 #[derive(Drop)]
 pub struct StopListen {
     stop: Arc<Stop, Global>,
@@ -296,7 +297,7 @@ pub struct StopListen {
 }
 
 impl StopListen {
-    /// Of a server that listens, or doesn't.
+    /// Makes the future for a server that listens, or doesn't.
     pub(crate) fn new(stop: Arc<Stop, Global>, is_listening: bool) -> StopListen
         ensures { (result.stop ≡ stop) × (result.is_listening ≡ is_listening) }
     {
@@ -324,7 +325,7 @@ impl Future for StopListen {
     }
 }
 
-/// The end of all connections of a server. Ready once they have ended, or by `Others("waiters are left")` behind its limit.
+/// The end of all connections of a server. Ready once they have ended, or with `Others("waiters are left")` after its limit.
 #[derive(Drop)]
 pub struct Disconnect {
     alloc: Global,
@@ -334,7 +335,7 @@ pub struct Disconnect {
 }
 
 impl Disconnect {
-    /// The connections that stop by this, within this time.
+    /// Makes the end of the connections that stop by this state, within this time.
     pub(crate) fn new(alloc: Global, stop: Arc<Stop, Global>, limit: Sleep) -> Disconnect
         ensures { (result.stop ≡ stop) × (result.limit ≡ limit) }
     {
@@ -346,11 +347,12 @@ impl Disconnect {
         }
     }
 
-    /// Waits until the limit has passed, and then tells all connections to end. Some of them may be left.
+    /// Waits until the limit has passed, and then asks all connections to end. Some of them may be left.
     fn poll_limit(&mut self, cx: &mut Context<'_>) -> Poll<Result<()>>
         ensures left { IfReady result (λ ended. IfErr ended IsLeftOver) }
         ensures stop { self.new.stop ≡ self.old.stop }
-        ensures registered { OnPending result (Covers cx.new (λ s. s ≡ sleep_source self.new.limit)) }
+        ensures registered { OnPending result
+            (Covers cx.new (λ s. s ≡ sleep_source self.new.limit)) }
         ensures kept { Keeps cx.old cx.new }
     {
         if self.limit.poll(cx).is_pending() {
@@ -382,7 +384,7 @@ impl Future for Disconnect {
     }
 }
 
-/// The error where connections are left, or `NoMemory` where memory for its text was refused.
+/// Makes the error for connections that are left, or `NoMemory` if memory for its text was refused.
 fn left_over(alloc: Global) -> Error
     ensures { IsLeftOver result }
 {
@@ -392,7 +394,7 @@ fn left_over(alloc: Global) -> Error
     }
 }
 
-/// Where a shutdown is.
+/// The state of a shutdown.
 #[derive(Drop)]
 enum Stopping {
     /// The listener is on its way back, and the connections go on.
@@ -411,7 +413,7 @@ pub struct Shutdown {
 }
 
 impl Shutdown {
-    /// Of a server that stops by these.
+    /// Makes the shutdown of a server that stops by these.
     pub(crate) fn new(
         stop: Arc<Stop, Global>,
         listener: StopListen,
@@ -459,7 +461,9 @@ impl Shutdown {
         cx: &mut Context<'_>,
     ) -> Poll<Result<()>>
         ensures ended { IfReady result (λ ended. IfErr ended IsLeftOver) }
-        ensures waits { OnPending result ((limit : ADisconnect) × (self.new.at ≡ Stopping.Listens listener limit) × Covers cx.new (λ s. s ≡ sleep_source limit.limit)) }
+        ensures waits { OnPending result
+            ((limit : ADisconnect) × (self.new.at ≡ Stopping.Listens listener limit)
+            × Covers cx.new (λ s. s ≡ sleep_source limit.limit)) }
         ensures kept { Keeps cx.old cx.new }
     {
         match connections.poll_limit(cx) {
@@ -481,7 +485,8 @@ impl Shutdown {
         cx: &mut Context<'_>,
     ) -> Poll<Result<()>>
         ensures ended { IfReady result (λ ended. IfErr ended IsLeftOver) }
-        ensures goes_on { OnPending result ((left : ADisconnect) × (self.new.at ≡ Stopping.Disconnects left)) }
+        ensures goes_on { OnPending result
+            ((left : ADisconnect) × (self.new.at ≡ Stopping.Disconnects left)) }
         ensures registered { OnPending result (Covers cx.new (StoppingNeeds self.new.at)) }
         ensures kept { Keeps cx.old cx.new }
     {

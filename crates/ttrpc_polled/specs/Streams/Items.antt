@@ -1,4 +1,4 @@
--- The messages of typed streams: what is sent for one, and what is told of one that is received.
+-- The messages of typed streams: the bytes that are sent for a message, and the result for one that is received.
 -- Source: the Rust crate, for the texts.
 use Rattle.std.specs.Prelude.{◌≡◌, ◌≢◌, ℕ, List, [], codes, Option, Some, None, Result, Ok, Err, IfOk}
 use Rattle.ttrpc_proto.specs.declared.error.Error.{Error}
@@ -9,7 +9,7 @@ use Rattle.ttrpc_polled.specs.declared.streams.items.SSSender.{SSSender}
 use Rattle.ttrpc_polled.specs.declared.streams.sending.Sending.{Sending}
 use Rattle.ttrpc_polled.specs.declared.streams.sending.Sending.TheVariants.{Sends, Closes, Stalls, Waits, Refused, Done}
 
--- the call sends the written form of this message, from which it is read again, or was refused since there is none to be had
+-- the call sends the written form of this message, from which it is read again; or it was refused, since the message can't be encoded
 abbrev pub IsItemSent : {M E : Type 0} → (M → List ℕ) → (List ℕ → Option M) → (E → Type 0) → (E → Option (List ℕ)) → M → Sending → Type 0
 IsItemSent written meaning is_no_memory output m (Sends bytes) = (bytes ≡ written m) × (meaning bytes ≡ Some m)
 IsItemSent written meaning is_no_memory output m (Refused e) = IsUnwritten (codes "Encode message failed. ") is_no_memory output (written m) e
@@ -18,20 +18,20 @@ IsItemSent written meaning is_no_memory output m (Stalls place item) = ⊥
 IsItemSent written meaning is_no_memory output m (Waits ticket) = ⊥
 IsItemSent written meaning is_no_memory output m Done = ⊥
 
--- this is told of something that the stream gave
+-- this is the result for something that the stream gave
 abbrev pub GivesItem : {M E : Type 0} → (List ℕ → Option M) → (E → Type 0) → (E → Option (List ℕ)) → Result M Error → Type 0
 GivesItem meaning is_no_memory output told = (given : Result (List ℕ) Error) × TellsItem meaning is_no_memory output given told
 
--- the same, where the end is told as none
+-- the same, with the end returned as no item
 abbrev pub GivesItemOrEnd : {M E : Type 0} → (List ℕ → Option M) → (E → Type 0) → (E → Option (List ℕ)) → Result (Option M) Error → Type 0
 GivesItemOrEnd meaning is_no_memory output told = (given : Result (List ℕ) Error) × TellsItemOrEnd meaning is_no_memory output given told
 
--- the value of the request with which a stream begins, or that its bytes mean none
+-- the value of the request with which a stream begins, or the error if its bytes mean none
 abbrev pub TellsRequest : {M E : Type 0} → (List ℕ → Option M) → (E → Type 0) → (E → Option (List ℕ)) → List ℕ → Result M Error → Type 0
 TellsRequest meaning is_no_memory output bytes (Ok m) = meaning bytes ≡ Some m
 TellsRequest meaning is_no_memory output bytes (Err e) = (e ≢ NoMemory → meaning bytes ≡ None) × TellsCause [] is_no_memory output e
 
--- of a stream that begins with a request there are its value and the half to send by; once it was given, it is closed
+-- a stream that begins with a request gives the request's value and the half by which to send; after that it is closed
 abbrev pub OpeningGives : {L I Q P : Type 0} → (List ℕ → Option Q) → Option (StreamInner L I) → Result (Q × SSSender P L I) Error → Type 0
 OpeningGives meaning (Some stream) r = IfOk r (λ opened. ((bytes : List ℕ) × (meaning bytes ≡ Some opened.0)) × (opened.1.tx ≡ stream.sender))
 OpeningGives meaning None r = r ≡ Err LocalClosed

@@ -1,5 +1,5 @@
--- What a step of a call on a stream does to the core that it is lent. What the core's own calls do is said by members of
--- `StreamCore`, which are the first arguments.
+-- The effect of a step of a call on a stream, on the core that it is lent. The members of `StreamCore`, which are the first arguments, say
+-- what the core's own calls do.
 -- Source: this project's.
 use Rattle.std.specs.Prelude.{◌≡◌, ◌≢◌, ◌⊎◌, ℕ, List, Bool, true, false, Option, Some, None, Result, Ok, Err}
 use Rattle.ttrpc_proto.specs.declared.error.Error.{Error}
@@ -16,7 +16,7 @@ ticket_of (Stalls place item) = None
 ticket_of (Refused e) = None
 ticket_of Done = None
 
--- whether its frame is still to be asked for
+-- true if the call's frame is still to be asked for
 abbrev pub is_new : Sending → Bool
 is_new (Sends item) = true
 is_new Closes = true
@@ -34,7 +34,7 @@ place_of (Waits ticket) = None
 place_of (Refused e) = None
 place_of Done = None
 
--- a call that waits at this place for room, if its frame is still to be asked for
+-- the call, waiting at this place for room, if its frame is still to be asked for
 abbrev pub stalled : ℕ → Sending → Sending
 stalled place (Sends item) = Stalls place (Some item)
 stalled place Closes = Stalls place None
@@ -47,34 +47,34 @@ stalled place Done = Done
 abbrev pub WaitsForRoom : Sending → Sending → Type 0
 WaitsForRoom call after = (place : ℕ) × (after ≡ stalled place call)
 
--- What is left of a call whose frame was asked for: it waits for the frame's ticket, stays as it was if there was no room, or was
--- refused for this.
+-- The rest of a call after its frame was asked for. It waits for the frame's ticket, stays as it was if there was no room, or was refused
+-- for this error.
 abbrev pub Asked : Result ℕ Error → Sending → Option (Result (Unit {0}) Error) → Sending → Type 0
 Asked (Ok ticket) call told after = (told ≡ None) × (after ≡ Waits ticket)
 Asked (Err NoRoom) call told after = (told ≡ None) × (after ≡ call)
 Asked (Err e) call told after = (told ≡ Some (Err e)) × (after ≡ Done)
 
--- A frame was asked for: it was queued, and is waited for under its ticket; or there was no room; or it was refused for another
--- reason. But for the first nothing changed.
+-- A frame was asked for. It was queued, and the call waits for its ticket; or there was no room; or it was refused for another reason.
+-- Except in the first case nothing changed.
 abbrev pub Queues : {C : Type 0} → (C → ℕ → C → Type 0) → (C → Error → Type 0) → Sending → C → Option (Result (Unit {0}) Error) → Sending → C → Type 0
 Queues queues refuses call old None after new = ((ticket : ℕ) × (after ≡ Waits ticket) × queues old ticket new) ⊎ ((after ≡ call) × (new ≡ old) × refuses old NoRoom)
 Queues queues refuses call old (Some (Err e)) after new = (after ≡ Done) × (new ≡ old) × refuses old e × (e ≢ NoRoom)
 Queues queues refuses call old (Some (Ok _)) after new = ⊥
 
--- what is left of the call once this was told of its ticket
+-- the rest of the call after this answer for its ticket
 abbrev pub after_told : ℕ → Option (Result (Unit {0}) Error) → Sending
 after_told ticket None = Waits ticket
 after_told ticket (Some told) = Done
 
--- It was asked whether the frame of this ticket was sent.
+-- The call asked whether the frame of this ticket was sent.
 abbrev pub Asks : {C : Type 0} → (C → ℕ → Option (Result (Unit {0}) Error) → Type 0) → C → ℕ → Option (Result (Unit {0}) Error) → Sending → C → Type 0
 Asks tells_sent old ticket told after new = tells_sent old ticket told × (after ≡ after_told ticket told) × (new ≡ old)
 
--- The call was over before: no core call was made, and this is told.
+-- The call was over before: no core call was made, and this is the result.
 abbrev pub IsOver : {C : Type 0} → Error → C → Option (Result (Unit {0}) Error) → Sending → C → Type 0
 IsOver error old told after new = (told ≡ Some (Err error)) × (after ≡ Done) × (new ≡ old)
 
--- The one core call was made that the call names, on the stream of this id.
+-- The one core call that the call names was made, on the stream of this id.
 abbrev pub IsStep : {C I : Type 0} → (C → I → List ℕ → ℕ → C → Type 0) → (C → I → List ℕ → Error → Type 0) → (C → I → ℕ → C → Type 0) → (C → I → Error → Type 0)
     → (C → ℕ → Option (Result (Unit {0}) Error) → Type 0) → I → C → Sending → Option (Result (Unit {0}) Error) → Sending → C → Type 0
 IsStep sends refuses closes refuses_close tells_sent id old (Sends item) told after new = Queues (λ o ticket n. sends o id item ticket n) (λ o e. refuses o id item e) (Sends item) old told after new
@@ -85,7 +85,7 @@ IsStep sends refuses closes refuses_close tells_sent id old (Waits ticket) told 
 IsStep sends refuses closes refuses_close tells_sent id old (Refused e) told after new = IsOver e old told after new
 IsStep sends refuses closes refuses_close tells_sent id old Done told after new = IsOver LocalClosed old told after new
 
--- Something was asked of the stream of this id: nothing came yet, or this is told of what it gave.
+-- The stream of this id was asked for something: nothing came yet, or this is the result for the thing that it gave.
 abbrev pub ReceivesAs : {C I T : Type 0} → (C → I → Option (Result (List ℕ) Error) → C → Type 0) → (Result (List ℕ) Error → T → Type 0) → I → C → Option T → C → Type 0
 ReceivesAs receives tells id old None new = receives old id None new
 ReceivesAs receives tells id old (Some told) new = (given : Result (List ℕ) Error) × receives old id (Some given) new × tells given told

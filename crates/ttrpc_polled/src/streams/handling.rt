@@ -1,4 +1,4 @@
-//! What a service's method does, as the call of a handler.
+//! The method of a service, as the call of a handler.
 ghost use Rattle.std.specs.Prelude.{◌≡◌, IfErr, IfOk};
 ghost use Rattle.ttrpc_message.specs.Calls.{AnswersWith, IsUnanswered};
 ghost use Rattle.ttrpc_polled.specs.Streams.Handling.{TellsClosing, TellsStreamed};
@@ -13,24 +13,24 @@ use ttrpc_message::calls::response_of;
 use ttrpc_proto::{Error, Response, Result};
 use ttrpc_wire::Codec;
 
-/// How what a service's method gives becomes what its handler gives.
+/// A conversion of the result of a service's method to the result of its handler.
 pub trait Telling {
     ghost use Rattle.std.specs.Prelude.{Result};
     ghost use Rattle.ttrpc_proto.specs.declared.error.Error.{Error};
 
-    /// What the method gives.
+    /// The value of the method.
     type Given: Drop;
-    /// What the handler gives.
+    /// The value of the handler.
     type Told: Drop;
 
-    // This is told of what was given.
+    // The method's result is converted to this result of the handler.
     ghost tells: { Result Self.Given Error → Result Self.Told Error → Type 0 };
 
     fn told(alloc: Global, given: Result<Self::Given>) -> Result<Self::Told>
         ensures { tells given result };
 }
 
-/// A method's value is answered by a response.
+/// The conversion of a method's value to a response.
 #[derive(Drop)]
 pub struct Responds<P> {
     value: PhantomData<P>,
@@ -47,16 +47,18 @@ where
 
     type Told = Response;
 
-    ghost tells = { λ given told. IfOk told (AnswersWith P.written P.meaning given) × IfErr told (IsUnanswered P.written P.E.is_no_memory P.E.output given) };
+    ghost tells = { λ given told. IfOk told (AnswersWith P.written P.meaning given)
+        × IfErr told (IsUnanswered P.written P.E.is_no_memory P.E.output given) };
 
     fn told(alloc: Global, given: Result<P>) -> Result<Response>
-        ensures { IfOk result (AnswersWith P.written P.meaning given) × IfErr result (IsUnanswered P.written P.E.is_no_memory P.E.output given) }
+        ensures { IfOk result (AnswersWith P.written P.meaning given)
+            × IfErr result (IsUnanswered P.written P.E.is_no_memory P.E.output given) }
     {
         response_of(alloc, given)
     }
 }
 
-/// A method's value is the response that ends a stream.
+/// The conversion of a method's value to the response that ends a stream.
 #[derive(Drop)]
 pub struct EndsBy<P> {
     value: PhantomData<P>,
@@ -84,7 +86,8 @@ where
     }
 }
 
-/// A method's end closes a stream, and its error ends it by a status.
+/// The conversion of a method's end to the close of a stream, and of its error to a status that
+/// ends the stream.
 #[derive(Drop)]
 pub struct Closes {}
 
@@ -107,18 +110,18 @@ impl Telling for Closes {
     }
 }
 
-/// Where a handler's call is.
+/// The state of a handler's call.
 #[derive(Drop)]
 pub enum HandlingAt<F> {
     /// The service's method runs.
     Runs(F),
     /// The request meant no value.
     Refused(Error),
-    /// It has ended.
+    /// The call has ended.
     Done,
 }
 
-/// The call of a handler: a service's method runs, and what it gives is told as `K` says.
+/// The call of a handler: a service's method runs, and `K` converts its result.
 #[derive(Drop)]
 pub struct Handling<F, K> {
     alloc: Global,
@@ -127,7 +130,7 @@ pub struct Handling<F, K> {
 }
 
 impl<F: Drop, K: Telling> Handling<F, K> {
-    /// The call that polls this method.
+    /// Makes the call that polls this method.
     pub fn runs(alloc: Global, call: F) -> Handling<F, K>
         ensures { result.at ≡ HandlingAt.Runs call }
     {
@@ -138,7 +141,7 @@ impl<F: Drop, K: Telling> Handling<F, K> {
         }
     }
 
-    /// The call that ends at once by this error.
+    /// Makes the call that ends at once with this error.
     pub fn refused(alloc: Global, error: Error) -> Handling<F, K>
         ensures { result.at ≡ HandlingAt.Refused error }
     {

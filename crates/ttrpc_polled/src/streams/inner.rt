@@ -24,14 +24,15 @@ pub struct StreamInner<L: StreamLine> {
 }
 
 impl<L: StreamLine> StreamInner<L> {
-    /// Both halves of this stream, each with its share of the line. Where memory is refused both are dropped.
+    /// Makes both halves of this stream, each with its share of the line. If memory is refused, both are dropped.
     pub fn new(
         alloc: Global,
         sends: Arc<L, Global>,
         receives: Arc<L, Global>,
         id: L::Id,
     ) -> Result<StreamInner<L>>
-        ensures ok { IfOk result (λ stream. ((arc_value stream.sender.seat).line ≡ sends) × ((arc_value stream.sender.seat).id ≡ id)
+        ensures ok { IfOk result (λ stream. ((arc_value stream.sender.seat).line ≡ sends)
+            × ((arc_value stream.sender.seat).id ≡ id)
             × (stream.receiver.line ≡ receives) × (stream.receiver.id ≡ id)) }
         ensures err { IfErr result (λ e. e ≡ AnError.NoMemory) }
     {
@@ -42,7 +43,7 @@ impl<L: StreamLine> StreamInner<L> {
         })
     }
 
-    /// The halves.
+    /// Splits the stream into its halves.
     pub fn split(self) -> (StreamSender<L>, StreamReceiver<L>)
         ensures { (result.0 ≡ self.sender) × (result.1 ≡ self.receiver) }
     {
@@ -50,21 +51,23 @@ impl<L: StreamLine> StreamInner<L> {
         (sender, receiver)
     }
 
-    /// The sending half.
+    /// Returns the sending half.
     pub fn sender(&self) -> &StreamSender<L>
         ensures { result.now ≡ self.now.sender }
     {
         &self.sender
     }
 
-    /// Sends an item. Ready once its frame has left the core, or with why it doesn't.
+    /// Sends an item. Ready once its frame has left the core, or with the reason why it doesn't leave.
     pub fn send(&self, item: Vec<u8>) -> StreamSenderSend<'_, L>
-        ensures { (result.sender.now ≡ self.now.sender) × (result.sending ≡ Sending.Sends item.items) }
+        ensures { (result.sender.now ≡ self.now.sender)
+            × (result.sending ≡ Sending.Sends item.items) }
     {
         self.sender.send(item)
     }
 
-    /// Says that no more items are sent. Ready once that has left the core, or with why it doesn't.
+    /// Closes the sending half: no more items are sent. Ready once that has left the core, or with the reason why it
+    /// doesn't leave.
     pub fn close_send(&self) -> StreamSenderCloseSend<'_, L>
         ensures { (result.sender.now ≡ self.now.sender) × (result.sending ≡ Sending.Closes) }
     {
@@ -78,9 +81,10 @@ impl<L: StreamLine> StreamInner<L> {
         self.receiver.recv()
     }
 
-    /// The same, for a state that keeps this stream.
+    /// Receives as `recv` does, for a state that keeps this stream.
     pub fn poll_recv(&mut self, cx: &mut Context<'_>) -> Poll<Result<Blob>>
-        ensures registered { OnPending result (Covers cx.new (λ s. s ≡ receiver_source L.came self.new.receiver)) }
+        ensures registered { OnPending result
+            (Covers cx.new (λ s. s ≡ receiver_source L.came self.new.receiver)) }
         ensures same { self.new ≡ self.old }
         ensures kept { Keeps cx.old cx.new }
     {

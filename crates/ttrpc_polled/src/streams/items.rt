@@ -1,4 +1,4 @@
-//! The halves of a stream whose items are messages.
+//! The halves of a stream of messages.
 ghost use Rattle.std.specs.Prelude.{◌≡◌, IfErr, IfOk};
 ghost use Rattle.std.specs.Arc.{arc_value};
 ghost use Rattle.futures.specs.Poll.{IfReady, OnPending};
@@ -24,7 +24,7 @@ use ttrpc_message::calls::{decode_item, decode_item_or_end, encode_item};
 use ttrpc_proto::Result;
 use ttrpc_wire::{Blob, Codec};
 
-/// The call that sends a message, or that was refused since its written form can't be had.
+/// Makes the call that sends a message. If the message can't be encoded, the call is refused.
 pub fn sending_of<M: Codec>(alloc: Global, item: &M) -> Sending
 where
     M::E: Display + Drop,
@@ -47,30 +47,32 @@ impl<Q: Codec, L: StreamLine> CSSender<Q, L>
 where
     Q::E: Display + Drop,
 {
-    /// Sends a message. Ready once its frame has left the core, or with why it doesn't.
+    /// Sends a message. Ready once its frame has left the core, or with the reason why it doesn't leave.
     pub fn send(&self, req: &Q) -> StreamSenderSend<'_, L>
         ensures sender { result.sender.now ≡ self.now.tx }
-        ensures item { IsItemSent Q.written Q.meaning Q.E.is_no_memory Q.E.output req.now result.sending }
+        ensures item { IsItemSent Q.written Q.meaning Q.E.is_no_memory Q.E.output
+            req.now result.sending }
     {
         self.tx.sending(sending_of(self.tx.alloc(), req))
     }
 
-    /// Steps a call that sends, for a state that keeps this sender: `sending_of` makes it of a message.
+    /// Steps a call that sends, for a state that keeps this sender. `sending_of` makes the call of a message.
     pub fn poll_sending(&self, sending: &mut Sending, cx: &mut Context<'_>) -> Poll<Result<()>>
-        ensures registered { OnPending result (Covers cx.new (λ s. s ≡ sender_source L.came self.now.tx)) }
+        ensures registered { OnPending result
+            (Covers cx.new (λ s. s ≡ sender_source L.came self.now.tx)) }
         ensures kept { Keeps cx.old cx.new }
     {
         self.tx.poll_sending(sending, cx)
     }
 
-    /// Says that no more messages are sent.
+    /// Closes the sending half: no more messages are sent.
     pub fn close_send(&self) -> StreamSenderCloseSend<'_, L>
         ensures { (result.sender.now ≡ self.now.tx) × (result.sending ≡ Sending.Closes) }
     {
         self.tx.close_send()
     }
 
-    /// Another sender of the same stream.
+    /// Makes another sender of the same stream.
     pub fn try_clone(&self) -> Result<CSSender<Q, L>>
         ensures ok { IfOk result (λ sender. arc_value sender.tx.seat ≡ arc_value self.now.tx.seat) }
         ensures err { IfErr result (λ e. e ≡ AnError.NoMemory) }
@@ -100,10 +102,11 @@ where
         CSReceiverRecv { receiver: self }
     }
 
-    /// The same, for a state that keeps this receiver.
+    /// Receives as `recv` does, for a state that keeps this receiver.
     pub fn poll_recv(&mut self, cx: &mut Context<'_>) -> Poll<Result<P>>
         ensures item { IfReady result (GivesItem P.meaning P.E.is_no_memory P.E.output) }
-        ensures registered { OnPending result (Covers cx.new (λ s. s ≡ receiver_source L.came self.new.rx)) }
+        ensures registered { OnPending result
+            (Covers cx.new (λ s. s ≡ receiver_source L.came self.new.rx)) }
         ensures same { self.new ≡ self.old }
         ensures kept { Keeps cx.old cx.new }
     {
@@ -111,9 +114,10 @@ where
         Poll::Ready(decode_item(self.rx.alloc(), given))
     }
 
-    /// Makes the one core call, `recv`, on a core that is lent. `None`: nothing came yet.
+    /// Makes the one core call, `recv`, on a core that is lent. Returns `None` if nothing came yet.
     pub(crate) fn step<C: StreamCore<Id = L::Id>>(&self, core: &mut C) -> Option<Result<P>>
-        ensures { ReceivesAs C.receives (TellsItem P.meaning P.E.is_no_memory P.E.output) self.now.rx.id core.old result core.new }
+        ensures { ReceivesAs C.receives (TellsItem P.meaning P.E.is_no_memory P.E.output)
+            self.now.rx.id core.old result core.new }
     {
         match self.rx.step(core) {
             Some(given) => Some(decode_item(self.rx.alloc(), given)),
@@ -132,9 +136,10 @@ impl<P: Codec, L: StreamLine> CSReceiverRecv<'_, P, L>
 where
     P::E: Display + Drop,
 {
-    /// Makes the one core call, `recv`, on a core that is lent. `None`: nothing came yet.
+    /// Makes the one core call, `recv`, on a core that is lent. Returns `None` if nothing came yet.
     pub fn step<C: StreamCore<Id = L::Id>>(&self, core: &mut C) -> Option<Result<P>>
-        ensures { ReceivesAs C.receives (TellsItem P.meaning P.E.is_no_memory P.E.output) self.now.receiver.now.rx.id core.old result core.new }
+        ensures { ReceivesAs C.receives (TellsItem P.meaning P.E.is_no_memory P.E.output)
+            self.now.receiver.now.rx.id core.old result core.new }
     {
         self.receiver.step(core)
     }
@@ -165,14 +170,14 @@ pub struct SSSender<P, L: StreamLine> {
     pub(crate) item: PhantomData<P>,
 }
 
-/// A stream of which only the server sends messages.
+/// A stream on which only the server sends messages.
 pub type ServerStreamSender<P, L> = SSSender<P, L>;
 
 impl<P: Codec, L: StreamLine> SSSender<P, L>
 where
     P::E: Display + Drop,
 {
-    /// The sending half of a stream, whose other half is dropped.
+    /// Makes the sending half of a stream, and drops the other half.
     pub fn new(inner: StreamInner<L>) -> SSSender<P, L>
         ensures { result.tx ≡ inner.sender }
     {
@@ -183,23 +188,25 @@ where
         }
     }
 
-    /// Sends a message. Ready once its frame has left the core, or with why it doesn't.
+    /// Sends a message. Ready once its frame has left the core, or with the reason why it doesn't leave.
     pub fn send(&self, resp: &P) -> StreamSenderSend<'_, L>
         ensures sender { result.sender.now ≡ self.now.tx }
-        ensures item { IsItemSent P.written P.meaning P.E.is_no_memory P.E.output resp.now result.sending }
+        ensures item { IsItemSent P.written P.meaning P.E.is_no_memory P.E.output
+            resp.now result.sending }
     {
         self.tx.sending(sending_of(self.tx.alloc(), resp))
     }
 
-    /// Steps a call that sends, for a state that keeps this sender: `sending_of` makes it of a message.
+    /// Steps a call that sends, for a state that keeps this sender. `sending_of` makes the call of a message.
     pub fn poll_sending(&self, sending: &mut Sending, cx: &mut Context<'_>) -> Poll<Result<()>>
-        ensures registered { OnPending result (Covers cx.new (λ s. s ≡ sender_source L.came self.now.tx)) }
+        ensures registered { OnPending result
+            (Covers cx.new (λ s. s ≡ sender_source L.came self.now.tx)) }
         ensures kept { Keeps cx.old cx.new }
     {
         self.tx.poll_sending(sending, cx)
     }
 
-    /// Another sender of the same stream.
+    /// Makes another sender of the same stream.
     pub fn try_clone(&self) -> Result<SSSender<P, L>>
         ensures ok { IfOk result (λ sender. arc_value sender.tx.seat ≡ arc_value self.now.tx.seat) }
         ensures err { IfErr result (λ e. e ≡ AnError.NoMemory) }
@@ -218,14 +225,14 @@ pub struct SSReceiver<Q, L: StreamLine> {
     pub(crate) item: PhantomData<Q>,
 }
 
-/// A stream of which a server only receives messages.
+/// A stream on which a server only receives messages.
 pub type ServerStreamReceiver<Q, L> = SSReceiver<Q, L>;
 
 impl<Q: Codec, L: StreamLine> SSReceiver<Q, L>
 where
     Q::E: Display + Drop,
 {
-    /// The receiving half of a stream, whose other half is dropped.
+    /// Makes the receiving half of a stream, and drops the other half.
     pub fn new(inner: StreamInner<L>) -> SSReceiver<Q, L>
         ensures { result.rx ≡ inner.receiver }
     {
@@ -236,17 +243,18 @@ where
         }
     }
 
-    /// Receives the next message: none where the other side closed. An error is another reason why there is none.
+    /// Receives the next message, or none if the other side closed. An error is another reason why there is none.
     pub fn recv(&mut self) -> SSReceiverRecv<'_, Q, L>
         ensures { result.receiver.now ≡ self.old }
     {
         SSReceiverRecv { receiver: self }
     }
 
-    /// The same, for a state that keeps this receiver.
+    /// Receives as `recv` does, for a state that keeps this receiver.
     pub fn poll_recv(&mut self, cx: &mut Context<'_>) -> Poll<Result<Option<Q>>>
         ensures item { IfReady result (GivesItemOrEnd Q.meaning Q.E.is_no_memory Q.E.output) }
-        ensures registered { OnPending result (Covers cx.new (λ s. s ≡ receiver_source L.came self.new.rx)) }
+        ensures registered { OnPending result
+            (Covers cx.new (λ s. s ≡ receiver_source L.came self.new.rx)) }
         ensures same { self.new ≡ self.old }
         ensures kept { Keeps cx.old cx.new }
     {
@@ -265,9 +273,10 @@ impl<Q: Codec, L: StreamLine> SSReceiverRecv<'_, Q, L>
 where
     Q::E: Display + Drop,
 {
-    /// Makes the one core call, `recv`, on a core that is lent. `None`: nothing came yet.
+    /// Makes the one core call, `recv`, on a core that is lent. Returns `None` if nothing came yet.
     pub fn step<C: StreamCore<Id = L::Id>>(&self, core: &mut C) -> Option<Result<Option<Q>>>
-        ensures { ReceivesAs C.receives (TellsItemOrEnd Q.meaning Q.E.is_no_memory Q.E.output) self.now.receiver.now.rx.id core.old result core.new }
+        ensures { ReceivesAs C.receives (TellsItemOrEnd Q.meaning Q.E.is_no_memory Q.E.output)
+            self.now.receiver.now.rx.id core.old result core.new }
     {
         let rx = &self.receiver.rx;
         match rx.step(core) {

@@ -1,4 +1,4 @@
-//! What the streams of a connection share with its future.
+//! The state that the streams of a connection share with its future.
 ghost use Rattle.std.specs.Prelude.{◌≡◌, ◌++◌, ℕ, List, [], None, length};
 ghost use Rattle.std.specs.BTreeMap.{is_at};
 ghost use Rattle.std.specs.Ordering.{nat_cmp};
@@ -18,30 +18,30 @@ use ttrpc_connection::StreamCore;
 use ttrpc_proto::Result;
 use ttrpc_wire::Blob;
 
-/// Which end of a connection a stream is of.
+/// The end of a connection to which a stream belongs.
 #[derive(Clone, Copy, Debug, PartialEq, Eq)]
 pub enum Kind {
-    /// A client's.
+    /// The client's end.
     Client,
-    /// A server's.
+    /// The server's end.
     Server,
 }
 
-/// What the streams of a connection share: under its lock a core, and the wakers of those who wait. Each call takes the lock,
-/// and makes on the core the steps of the call that it is handed.
+/// The state that the streams of a connection share: under its lock a core, and the wakers of waiting tasks. Each call takes the lock, and
+/// makes the steps of the given call on the core.
 pub trait StreamLine: Drop {
     ghost use Rattle.std.specs.Prelude.{ℕ};
 
-    /// By what its streams are named.
+    /// The name of a stream.
     type Id: Ord + Copy + Drop;
 
-    // The source at which those wait who use its streams.
+    // The source at which the users of the streams wait.
     ghost came: { Self → ℕ };
 
-    /// Which end of the connection it is.
+    /// Returns which end of the connection this is.
     fn kind(&self) -> Kind;
 
-    /// Steps a call that sends on this stream. Pending: the caller is woken once there is an answer.
+    /// Steps a call that sends on this stream. If pending, the caller is woken once there is an answer.
     fn poll_sending(
         &self,
         alloc: Global,
@@ -52,7 +52,7 @@ pub trait StreamLine: Drop {
         ensures registered { OnPending result (Covers cx.new (λ s. s ≡ came self.now)) }
         ensures kept { Keeps cx.old cx.new };
 
-    /// Receives from this stream. Pending: the caller is woken once something came.
+    /// Receives from this stream. If pending, the caller is woken once something came.
     fn poll_receiving(
         &self,
         alloc: Global,
@@ -62,14 +62,14 @@ pub trait StreamLine: Drop {
         ensures registered { OnPending result (Covers cx.new (λ s. s ≡ came self.now)) }
         ensures kept { Keeps cx.old cx.new };
 
-    /// Nobody receives from this stream any more.
+    /// Reports that no task receives from this stream any more.
     fn drop_receiver(&self, id: Self::Id);
 
-    /// Nobody sends on this stream any more.
+    /// Reports that no task sends on this stream any more.
     fn drop_sender(&self, id: Self::Id);
 }
 
-/// The wakers of those who use the streams of a connection, which contracts see as what they wait for.
+/// The wakers of the users of a connection's streams. Contracts see them as the things that these users wait for.
 #[derive(Drop)]
 pub struct StreamWakers {
     senders: Wakers,
@@ -85,7 +85,7 @@ impl Model for StreamWakers {
 }
 
 impl StreamWakers {
-    /// Nobody waits.
+    /// Makes an empty collection of wakers.
     pub fn new(alloc: Global) -> StreamWakers
         ensures { result ≡ nobody }
     {
@@ -95,28 +95,29 @@ impl StreamWakers {
         }
     }
 
-    /// How many wait for frames to be sent.
+    /// Returns how many tasks wait for frames to be sent.
     pub fn senders(&self) -> usize
         ensures { result ≡ length self.now.senders }
     {
         self.senders.len()
     }
 
-    /// How many wait to receive.
+    /// Returns how many tasks wait to receive.
     pub fn receivers(&self) -> usize
         ensures { result ≡ length self.now.receivers }
     {
         self.receivers.len()
     }
 
-    /// Wakes who receives from this stream.
+    /// Wakes the task that receives from this stream.
     pub fn wake_receiver(&mut self, id: u64)
-        ensures { self.new ≡ record self.old { receivers = remove_key (is_at (nat_cmp id)) self.old.receivers } }
+        ensures { self.new
+            ≡ record self.old { receivers = remove_key (is_at (nat_cmp id)) self.old.receivers } }
     {
         self.receivers.wake(id);
     }
 
-    /// Wakes those whose frames have left the core, up to the first frame that hasn't.
+    /// Wakes the senders of frames that have left the core, up to the first frame that hasn't.
     pub fn wake_sent<C: StreamCore>(&mut self, alloc: Global, core: &C)
         ensures first { IfUnsent (λ ticket. C.tells_sent core.now ticket None) self.new.senders }
         ensures woken { (woken : List ℕ) × (self.old.senders ≡ woken ++ self.new.senders) }
@@ -130,7 +131,7 @@ impl StreamWakers {
         }
     }
 
-    /// Wakes everybody, since the connection has failed.
+    /// Wakes all tasks, since the connection has failed.
     pub fn wake_all(&mut self)
         ensures { self.new ≡ nobody }
     {
@@ -138,8 +139,8 @@ impl StreamWakers {
         self.receivers.wake_all();
     }
 
-    /// Steps a call that sends on a stream, on a core that is lent: it asks for its frame, where it hasn't, and then whether
-    /// that was sent. Where there is no room for the frame, or no answer yet, it waits at this source.
+    /// Steps a call that sends on a stream, on a core that is lent. Asks for the call's frame, if it hasn't yet, and then whether the frame
+    /// was sent. If there is no room for the frame, or no answer yet, waits at this source.
     pub fn poll_sending_on<C: StreamCore>(
         &mut self,
         alloc: Global,
@@ -150,7 +151,8 @@ impl StreamWakers {
         came: &Source,
         cx: &mut Context<'_>,
     ) -> Poll<Result<()>>
-        ensures polls { Polls is_new WaitsForRoom (IsStep C.sends C.refuses C.closes C.refuses_close C.tells_sent id) core.old sending.old result sending.new core.new }
+        ensures polls { Polls is_new WaitsForRoom (IsStep C.sends C.refuses C.closes C.refuses_close
+            C.tells_sent id) core.old sending.old result sending.new core.new }
         ensures registered { OnPending result (Covers cx.new (λ s. s ≡ came.now.id)) }
         ensures kept { Keeps cx.old cx.new }
     {
@@ -173,7 +175,7 @@ impl StreamWakers {
         }
     }
 
-    /// Receives from a stream of a core that is lent. Where nothing came yet it waits at this source.
+    /// Receives from a stream of a core that is lent. If nothing came yet, waits at this source.
     pub fn poll_receiving_on<K: Ord + Copy + Into<u64> + Drop, C: StreamCore<Id = K>>(
         &mut self,
         alloc: Global,

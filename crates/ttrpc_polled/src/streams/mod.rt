@@ -1,4 +1,4 @@
-//! Streams as values that are polled, over what either core does for a stream.
+//! Streams as values that are polled, over the calls that either core has for a stream.
 
 mod handling;
 mod inner;

@@ -14,8 +14,8 @@ use ttrpc_message::codec_error_of;
 use ttrpc_proto::{Error, Result};
 use ttrpc_wire::{Blob, Codec};
 
-/// A stream of a server that begins with a request and goes on with what the server sends. Ready once the request is there: its
-/// value, and the half to send by.
+/// A stream of a server that begins with a request and goes on with the server's messages. Ready once the request is there, with its value
+/// and the half by which to send.
 #[derive(Drop)]
 pub struct ServerStreamOpening<Q, P, L: StreamLine> {
     alloc: Global,
@@ -28,7 +28,7 @@ where
     Q::E: Display + Drop,
     P::E: Display + Drop,
 {
-    /// Of this stream.
+    /// Makes the opening of this stream.
     pub fn new(alloc: Global, inner: StreamInner<L>) -> ServerStreamOpening<Q, P, L>
         ensures { result.stream ≡ Some inner }
     {
@@ -72,7 +72,7 @@ where
     }
 }
 
-/// The value of a request. Of bytes that mean none the error is `NoMemory`, or `Others` of what the codec's error prints.
+/// Decodes a request. The error is `NoMemory`, or, if the bytes mean no value, `Others` of the text that the codec's error prints.
 fn request_in<Q: Codec>(alloc: Global, request: &Blob) -> Result<Q>
 where
     Q::E: Display + Drop,

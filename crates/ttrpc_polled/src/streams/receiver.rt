@@ -13,7 +13,7 @@ use ttrpc_connection::StreamCore;
 use ttrpc_proto::Result;
 use ttrpc_wire::Blob;
 
-/// The receiving half of a stream. As it is dropped, what comes for the stream is thrown away.
+/// The receiving half of a stream. After it is dropped, items that come for the stream are thrown away.
 pub struct StreamReceiver<L: StreamLine> {
     alloc: Global,
     line: Arc<L, Global>,
@@ -21,36 +21,37 @@ pub struct StreamReceiver<L: StreamLine> {
 }
 
 impl<L: StreamLine> StreamReceiver<L> {
-    /// The receiving half of this stream.
+    /// Makes the receiving half of this stream.
     pub fn new(alloc: Global, line: Arc<L, Global>, id: L::Id) -> StreamReceiver<L>
         ensures { (result.line ≡ line) × (result.id ≡ id) }
     {
         StreamReceiver { alloc, line, id }
     }
 
-    /// The allocator of its calls.
+    /// Returns the allocator of its calls.
     pub fn alloc(&self) -> Global {
         self.alloc
     }
 
-    /// Receives the next item. Ready once there is one, or a reason why there is none: `Eof` where the other side closed, and
-    /// `RemoteClosed` behind the last.
+    /// Receives the next item. Ready once there is one, or with a reason why there is none: `Eof` if the other side closed, and
+    /// `RemoteClosed` after that, or after an item that closed the stream.
     pub fn recv(&mut self) -> StreamReceiverRecv<'_, L>
         ensures { result.receiver.now ≡ self.old }
     {
         StreamReceiverRecv { receiver: self }
     }
 
-    /// The same, for a state that keeps this receiver.
+    /// Receives as `recv` does, for a state that keeps this receiver.
     pub fn poll_recv(&mut self, cx: &mut Context<'_>) -> Poll<Result<Blob>>
-        ensures registered { OnPending result (Covers cx.new (λ s. s ≡ L.came (arc_value self.new.line))) }
+        ensures registered { OnPending result
+            (Covers cx.new (λ s. s ≡ L.came (arc_value self.new.line))) }
         ensures same { self.new ≡ self.old }
         ensures kept { Keeps cx.old cx.new }
     {
         self.line.poll_receiving(self.alloc, self.id, cx)
     }
 
-    /// Makes the one core call, `recv`, on a core that is lent. `None`: nothing came yet.
+    /// Makes the one core call, `recv`, on a core that is lent. Returns `None` if nothing came yet.
     pub(crate) fn step<C: StreamCore<Id = L::Id>>(&self, core: &mut C) -> Option<Result<Blob>>
         ensures { C.receives core.old self.now.id result core.new }
     {
@@ -72,7 +73,7 @@ pub struct StreamReceiverRecv<'a, L: StreamLine> {
 }
 
 impl<L: StreamLine> StreamReceiverRecv<'_, L> {
-    /// Makes the one core call, `recv`, on a core that is lent. `None`: nothing came yet.
+    /// Makes the one core call, `recv`, on a core that is lent. Returns `None` if nothing came yet.
     pub fn step<C: StreamCore<Id = L::Id>>(&self, core: &mut C) -> Option<Result<Blob>>
         ensures { C.receives core.old self.now.receiver.now.id result core.new }
     {

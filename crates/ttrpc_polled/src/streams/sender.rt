@@ -16,7 +16,8 @@ use ttrpc_connection::StreamCore;
 use ttrpc_proto::Result;
 use ttrpc_wire::Blob;
 
-/// What the senders of a stream share. With the last of them nobody sends on it any more.
+/// The state that the senders of a stream share. After the last of them is dropped, no task sends on the stream any
+/// more.
 pub struct SenderSeat<L: StreamLine> {
     line: Arc<L, Global>,
     id: L::Id,
@@ -37,9 +38,10 @@ pub struct StreamSender<L: StreamLine> {
 }
 
 impl<L: StreamLine> StreamSender<L> {
-    /// The sending half of this stream.
+    /// Makes the sending half of this stream.
     pub fn new(alloc: Global, line: Arc<L, Global>, id: L::Id) -> Result<StreamSender<L>>
-        ensures ok { IfOk result (λ sender. ((arc_value sender.seat).line ≡ line) × ((arc_value sender.seat).id ≡ id)) }
+        ensures ok { IfOk result
+            (λ sender. ((arc_value sender.seat).line ≡ line) × ((arc_value sender.seat).id ≡ id)) }
         ensures err { IfErr result (λ e. e ≡ AnError.NoMemory) }
     {
         Ok(StreamSender {
@@ -48,19 +50,19 @@ impl<L: StreamLine> StreamSender<L> {
         })
     }
 
-    /// The allocator of its calls.
+    /// Returns the allocator of its calls.
     pub fn alloc(&self) -> Global {
         self.alloc
     }
 
-    /// By what its stream is named.
+    /// Returns the name of its stream.
     pub(crate) fn id(&self) -> L::Id
         ensures { result ≡ (arc_value self.now.seat).id }
     {
         self.seat.id
     }
 
-    /// Another sender of the same stream.
+    /// Makes another sender of the same stream.
     pub fn try_clone(&self) -> Result<StreamSender<L>>
         ensures ok { IfOk result (λ sender. arc_value sender.seat ≡ arc_value self.now.seat) }
         ensures err { IfErr result (λ e. e ≡ AnError.NoMemory) }
@@ -71,21 +73,22 @@ impl<L: StreamLine> StreamSender<L> {
         })
     }
 
-    /// Sends an item. Ready once its frame has left the core, or with why it doesn't.
+    /// Sends an item. Ready once its frame has left the core, or with the reason why it doesn't leave.
     pub fn send(&self, item: Vec<u8>) -> StreamSenderSend<'_, L>
         ensures { (result.sender.now ≡ self.now) × (result.sending ≡ Sending.Sends item.items) }
     {
         self.sending(Sending::Sends(Blob::from_vec(item)))
     }
 
-    /// Says that no more items are sent. Ready once that has left the core, or with why it doesn't.
+    /// Closes the sending half: no more items are sent. Ready once that has left the core, or with the reason why it
+    /// doesn't leave.
     pub fn close_send(&self) -> StreamSenderCloseSend<'_, L>
         ensures { (result.sender.now ≡ self.now) × (result.sending ≡ Sending.Closes) }
     {
         self.sending(Sending::Closes)
     }
 
-    /// The call that is there.
+    /// Makes the call with this state.
     pub fn sending(&self, sending: Sending) -> StreamSenderSend<'_, L>
         ensures { (result.sender.now ≡ self.now) × (result.sending ≡ sending) }
     {
@@ -97,7 +100,8 @@ impl<L: StreamLine> StreamSender<L> {
 
     /// Steps a call that sends, for a state that keeps this sender.
     pub fn poll_sending(&self, sending: &mut Sending, cx: &mut Context<'_>) -> Poll<Result<()>>
-        ensures registered { OnPending result (Covers cx.new (λ s. s ≡ L.came (arc_value (arc_value self.now.seat).line))) }
+        ensures registered { OnPending result
+            (Covers cx.new (λ s. s ≡ L.came (arc_value (arc_value self.now.seat).line))) }
         ensures kept { Keeps cx.old cx.new }
     {
         let seat = &*self.seat;
@@ -112,13 +116,16 @@ pub struct StreamSenderSend<'a, L: StreamLine> {
     pub sending: Sending,
 }
 
-/// A stream whose sending half is closed.
+/// The call that closes the sending half of a stream.
 pub type StreamSenderCloseSend<'a, L> = StreamSenderSend<'a, L>;
 
 impl<L: StreamLine> StreamSenderSend<'_, L> {
-    /// Makes the one core call that its state names, on a core that is lent. `None`: there is no answer yet.
+    /// Makes the one core call that the call's state names, on a core that is lent. Returns `None` if there is no
+    /// answer yet.
     pub fn step<C: StreamCore<Id = L::Id>>(&mut self, core: &mut C) -> Option<Result<()>>
-        ensures step { IsStep C.sends C.refuses C.closes C.refuses_close C.tells_sent (arc_value self.old.sender.now.seat).id core.old self.old.sending result self.new.sending core.new }
+        ensures step { IsStep C.sends C.refuses C.closes C.refuses_close C.tells_sent
+            (arc_value self.old.sender.now.seat).id core.old self.old.sending result
+            self.new.sending core.new }
         ensures sender { self.new.sender ≡ self.old.sender }
     {
         self.sending.step(self.sender.alloc, core, self.sender.id())

@@ -1,4 +1,4 @@
-//! Where a call is that sends on a stream.
+//! The state of a call that sends on a stream.
 ghost use Rattle.std.specs.Prelude.{◌≡◌};
 ghost use Rattle.ttrpc_polled.specs.Streams.Steps.{Asked, IsStep, is_new, place_of, stalled, ticket_of};
 
@@ -8,32 +8,33 @@ use ttrpc_connection::{StreamCore, Ticket};
 use ttrpc_proto::{Error, Result};
 use ttrpc_wire::Blob;
 
-/// Where a call is that sends an item, or that says there are no more. Each step makes the one core call that it names.
+/// The state of a call that sends an item, or that says there are no more. Each step makes the one core call that the state names.
 #[derive(Debug, Drop)]
 pub enum Sending {
     /// The item is to be sent: `send`.
     Sends(Blob),
-    /// That there are no more is to be said: `close_send`.
+    /// The call is to say that there are no more items: `close_send`.
     Closes,
     /// There was no room. The call waits at this place, to send this item or to say that there are no more.
     Stalls(u64, Option<Blob>),
-    /// It waits until the frame of this ticket has left the core: `sent`.
+    /// The call waits until the frame of this ticket has left the core: `sent`.
     Waits(Ticket),
-    /// It was refused before any core was asked.
+    /// The call was refused before any core was asked.
     Refused(Error),
-    /// Its answer was given.
+    /// The answer was returned.
     Done,
 }
 
 impl Sending {
-    /// Makes the one core call. `None`: there is no answer yet. A call whose answer was given is `LocalClosed`.
+    /// Makes the one core call. Returns `None` if there is no answer yet. A call that has returned its answer is `LocalClosed`.
     pub fn step<C: StreamCore>(
         &mut self,
         alloc: Global,
         core: &mut C,
         id: C::Id,
     ) -> Option<Result<()>>
-        ensures { IsStep C.sends C.refuses C.closes C.refuses_close C.tells_sent id core.old self.old result self.new core.new }
+        ensures { IsStep C.sends C.refuses C.closes C.refuses_close C.tells_sent id core.old
+            self.old result self.new core.new }
     {
         match replace(self, Sending::Done) {
             Sending::Sends(item) => {
@@ -64,7 +65,8 @@ impl Sending {
         }
     }
 
-    /// The call after its frame was asked for: it waits for the frame's ticket, stays as it was if there was no room, or is over.
+    /// Sets the state after the call's frame was asked for. The call waits for the frame's ticket, stays as it was if there was no room, or
+    /// is over.
     fn asked(&mut self, asked: Result<Ticket>, call: Sending) -> Option<Result<()>>
         requires { self.old ≡ Sending.Done }
         ensures { Asked asked call result self.new }
@@ -82,7 +84,7 @@ impl Sending {
         }
     }
 
-    /// The call waits at this place for room, if its frame is still to be asked for.
+    /// Sets the place at which the call waits for room, if its frame is still to be asked for.
     pub(crate) fn stall(&mut self, place: u64)
         ensures { self.new ≡ stalled place self.old }
     {
@@ -94,7 +96,7 @@ impl Sending {
         }
     }
 
-    /// Returns the place at which it waits for room.
+    /// Returns the place at which the call waits for room.
     pub(crate) fn place(&self) -> Option<u64>
         ensures { result ≡ place_of self.now }
     {
@@ -104,7 +106,7 @@ impl Sending {
         }
     }
 
-    /// The ticket for which it waits.
+    /// Returns the ticket for which the call waits.
     pub fn ticket(&self) -> Option<Ticket>
         ensures { result ≡ ticket_of self.now }
     {
@@ -114,7 +116,7 @@ impl Sending {
         }
     }
 
-    /// Whether its frame is still to be asked for.
+    /// Returns whether the call's frame is still to be asked for.
     pub fn is_new(&self) -> bool
         ensures { result ≡ is_new self.now }
     {

@@ -1,4 +1,4 @@
-//! Streams whose items are messages, with both their halves.
+//! Streams of messages, with both their halves.
 ghost use Rattle.std.specs.Prelude.{◌≡◌};
 ghost use Rattle.futures.specs.Poll.{IfReady, OnPending};
 ghost use Rattle.futures.specs.Task.{Covers, Keeps};
@@ -36,7 +36,7 @@ where
     Q::E: Display + Drop,
     P::E: Display + Drop,
 {
-    /// Over this stream.
+    /// Makes a stream of messages over this stream.
     pub fn new(inner: StreamInner<L>) -> ClientStream<Q, P, L>
         ensures { (result.tx.tx ≡ inner.sender) × (result.rx.rx ≡ inner.receiver) }
     {
@@ -53,7 +53,7 @@ where
         }
     }
 
-    /// Its halves.
+    /// Splits the stream into its halves.
     pub fn split(self) -> (CSSender<Q, L>, CSReceiver<P, L>)
         ensures { (result.0 ≡ self.tx) × (result.1 ≡ self.rx) }
     {
@@ -61,15 +61,16 @@ where
         (tx, rx)
     }
 
-    /// Sends a message. Ready once its frame has left the core, or with why it doesn't.
+    /// Sends a message. Ready once its frame has left the core, or with the reason why it doesn't leave.
     pub fn send(&self, req: &Q) -> StreamSenderSend<'_, L>
         ensures sender { result.sender.now ≡ self.now.tx.tx }
-        ensures item { IsItemSent Q.written Q.meaning Q.E.is_no_memory Q.E.output req.now result.sending }
+        ensures item { IsItemSent Q.written Q.meaning Q.E.is_no_memory Q.E.output
+            req.now result.sending }
     {
         self.tx.send(req)
     }
 
-    /// Says that no more messages are sent.
+    /// Closes the sending half: no more messages are sent.
     pub fn close_send(&self) -> StreamSenderCloseSend<'_, L>
         ensures { (result.sender.now ≡ self.now.tx.tx) × (result.sending ≡ Sending.Closes) }
     {
@@ -96,7 +97,7 @@ where
     P::E: Display + Drop,
     Q::E: Display + Drop,
 {
-    /// Over this stream.
+    /// Makes a stream of messages over this stream.
     pub fn new(inner: StreamInner<L>) -> ServerStream<P, Q, L>
         ensures { (result.tx.tx ≡ inner.sender) × (result.rx.rx ≡ inner.receiver) }
     {
@@ -113,7 +114,7 @@ where
         }
     }
 
-    /// Its halves.
+    /// Splits the stream into its halves.
     pub fn split(self) -> (SSSender<P, L>, SSReceiver<Q, L>)
         ensures { (result.0 ≡ self.tx) × (result.1 ≡ self.rx) }
     {
@@ -121,15 +122,16 @@ where
         (tx, rx)
     }
 
-    /// Sends a message. Ready once its frame has left the core, or with why it doesn't.
+    /// Sends a message. Ready once its frame has left the core, or with the reason why it doesn't leave.
     pub fn send(&self, resp: &P) -> StreamSenderSend<'_, L>
         ensures sender { result.sender.now ≡ self.now.tx.tx }
-        ensures item { IsItemSent P.written P.meaning P.E.is_no_memory P.E.output resp.now result.sending }
+        ensures item { IsItemSent P.written P.meaning P.E.is_no_memory P.E.output
+            resp.now result.sending }
     {
         self.tx.send(resp)
     }
 
-    /// Receives the next message: none where the other side closed. An error is another reason why there is none.
+    /// Receives the next message, or none if the other side closed. An error is another reason why there is none.
     pub fn recv(&mut self) -> SSReceiverRecv<'_, Q, L>
         ensures { result.receiver.now ≡ self.old.rx }
     {
@@ -149,7 +151,7 @@ where
     Q::E: Display + Drop,
     P::E: Display + Drop,
 {
-    /// Over this stream.
+    /// Makes a stream of messages over this stream.
     pub fn new(inner: StreamInner<L>) -> ClientStreamSender<Q, P, L>
         ensures { (result.tx.tx ≡ inner.sender) × (result.rx.rx ≡ inner.receiver) }
     {
@@ -157,15 +159,16 @@ where
         ClientStreamSender { tx, rx }
     }
 
-    /// Sends a message. Ready once its frame has left the core, or with why it doesn't.
+    /// Sends a message. Ready once its frame has left the core, or with the reason why it doesn't leave.
     pub fn send(&self, req: &Q) -> StreamSenderSend<'_, L>
         ensures sender { result.sender.now ≡ self.now.tx.tx }
-        ensures item { IsItemSent Q.written Q.meaning Q.E.is_no_memory Q.E.output req.now result.sending }
+        ensures item { IsItemSent Q.written Q.meaning Q.E.is_no_memory Q.E.output
+            req.now result.sending }
     {
         self.tx.send(req)
     }
 
-    /// Says that no more messages are sent, and receives the one that answers them.
+    /// Closes the sending half, and receives the message that answers.
     pub fn close_and_recv(&mut self) -> ClientStreamSenderCloseAndRecv<'_, Q, P, L>
         ensures { (result.stream.now ≡ self.old) × (result.at ≡ Closing.Closes Sending.Closes) }
     {
@@ -176,12 +179,12 @@ where
     }
 }
 
-/// Where a call is that closes a stream and then receives.
+/// The state of a call that closes a stream and then receives.
 #[derive(Debug, Drop)]
 pub enum Closing {
-    /// It closes.
+    /// The call closes the stream.
     Closes(Sending),
-    /// It receives.
+    /// The call receives.
     Receives,
 }
 
@@ -197,11 +200,13 @@ where
     Q::E: Display + Drop,
     P::E: Display + Drop,
 {
-    /// Makes the one core call that its state names, on a core that is lent: of its closing, and behind that `recv`. `None`: there
-    /// is no answer yet.
+    /// Makes the one core call that the call's state names, on a core that is lent: one of its closing, and after that `recv`. Returns
+    /// `None` if there is no answer yet.
     pub fn step<C: StreamCore<Id = L::Id>>(&mut self, core: &mut C) -> Option<Result<P>>
-        ensures step { IsClosingStep (IsStep C.sends C.refuses C.closes C.refuses_close C.tells_sent (arc_value self.old.stream.now.tx.tx.seat).id)
-            (ReceivesAs C.receives (TellsItem P.meaning P.E.is_no_memory P.E.output) self.old.stream.now.rx.rx.id) core.old self.old.at result self.new.at core.new }
+        ensures step { IsClosingStep (IsStep C.sends C.refuses C.closes C.refuses_close C.tells_sent
+            (arc_value self.old.stream.now.tx.tx.seat).id)
+            (ReceivesAs C.receives (TellsItem P.meaning P.E.is_no_memory P.E.output)
+            self.old.stream.now.rx.rx.id) core.old self.old.at result self.new.at core.new }
         ensures stream { self.new.stream ≡ self.old.stream }
     {
         let Closing::Closes(mut closing) = replace(&mut self.at, Closing::Receives) else {

@@ -13,6 +13,6 @@ returns-in-Asks g c =
 
 pub returns-in-Stalls : goal.returns-in-Stalls
 returns-in-Stalls g c =
-    let stalls : c.args.self.now ≡ Stalls c.in-Stalls.place c.in-Stalls.request c.in-Stalls.now = search rules in
+    let stalls : c.args.self.now ≡ Stalls c.in-Stalls._place c.in-Stalls.request c.in-Stalls.now = search rules in
     let made = c.request-asked-in-Stalls.ensures in
-    rw stalls (begins g.O.OutboundTransform (Stalls c.in-Stalls.place c.in-Stalls.request c.in-Stalls.now) c.args.core.now c.in-Stalls.request c.in-Stalls.now c.request-asked-in-Stalls.result c.asked-in-Stalls.result c.asked-in-Stalls.new.self c.request-asked-in-Stalls.new.self c.asked-in-Stalls.ensures made.ok made.refused made.err)
+    rw stalls (begins g.O.OutboundTransform (Stalls c.in-Stalls._place c.in-Stalls.request c.in-Stalls.now) c.args.core.now c.in-Stalls.request c.in-Stalls.now c.request-asked-in-Stalls.result c.asked-in-Stalls.result c.asked-in-Stalls.new.self c.request-asked-in-Stalls.new.self c.asked-in-Stalls.ensures made.ok made.refused made.err)
