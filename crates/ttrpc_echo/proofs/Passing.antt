@@ -14,7 +14,7 @@ use Rattle.ttrpc_connection.proofs.Holding.{fed_some}
 use Rattle.ttrpc_server.specs.declared.server.ServerCore.{ServerCore}
 use Rattle.ttrpc_server.specs.Table.{status_response, Row, Ignore, SendResponse, SendCode, MakeJob, MakeStream, PutIn, sync_row}
 use Rattle.ttrpc_echo.specs.Echo.{AreAnswers, Says, echo_of, echo_services, plainly, said_bytes}
-use Rattle.ttrpc_echo.specs.Answered.{IsCausePast, IsOfSystem}
+use Rattle.ttrpc_echo.specs.Answered.{IsCausePast, IsOfStream}
 use Rattle.ttrpc_echo.specs.Serving.{IsStop, PassesOn, PassesPart, Serves, WritesOut}
 use Rattle.ttrpc_echo.proofs.Echoing.{answers_twice, whole_front}
 use Rattle.ttrpc_echo.proofs.Known.{appends_twice, keeps_appends_nothing, keeps_same}
@@ -150,7 +150,7 @@ stops_serving old now held holds before piece rest e at p stop =
 
 -- what answers a front of the rest isn't written whole
 writes_part : (now mid new : ServerCore Plain Plain) (holds wrote : Option (List ℕ)) (before rest : List ℕ) (n : ℕ) (e : Error) → Holds now.connection.decoder before → unsent now.connection.outbox.queue ≡ []
-    → Serves now (take n rest) mid → WritesOut mid holds new wrote → IsOfSystem e → PassesPart now holds rest e wrote
+    → Serves now (take n rest) mid → WritesOut mid holds new wrote → IsOfStream e → PassesPart now holds rest e wrote
 writes_part now mid new holds wrote before rest n e at empty serves out system =
     let later = serves.fed before at in
     let f = fed_some mid.connection.decoder later.0 (drop n rest) later.2 in
@@ -171,7 +171,7 @@ writes_part now mid new holds wrote before rest n e at empty serves out system =
     }
 
 pub stops_writing : (old now mid new : ServerCore Plain Plain) (held holds wrote : Option (List ℕ)) (before piece rest : List ℕ) (n : ℕ) (e : Error) → Holds old.connection.decoder before
-    → PassedSoFar old held piece rest now holds → unsent now.connection.outbox.queue ≡ [] → Serves now (take n rest) mid → WritesOut mid holds new wrote → IsOfSystem e → PassesPart old held piece e wrote
+    → PassedSoFar old held piece rest now holds → unsent now.connection.outbox.queue ≡ [] → Serves now (take n rest) mid → WritesOut mid holds new wrote → IsOfStream e → PassesPart old held piece e wrote
 stops_writing old now mid new held holds wrote before piece rest n e at p empty serves out system =
     let later = p.passes.fed before at in
     stops_later old now held holds wrote piece rest e p (writes_part now mid new holds wrote later.0 rest n e later.2 empty serves out system)

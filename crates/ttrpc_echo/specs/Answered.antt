@@ -1,14 +1,14 @@
--- What a run of the engine of `answer` did, over a reader and a writer whose bytes may be known.
+-- How a run of the engine of `answer` ends, over a reader and a writer with bytes that may be known.
 -- Source: this project's.
 use Rattle.std.specs.Prelude.{◌≡◌, ◌≢◌, ◌⊎◌, ℕ, ◌+◌, ◌≤◌, ◌^◌, List, [], length, take, codes, Option, ⊤}
 use Rattle.std.specs.Io.KnownBytes.{Appends, Consumes, IsAtEnd}
 use Rattle.ttrpc_proto.specs.declared.error.Error.{Error}
-use Rattle.ttrpc_proto.specs.declared.error.Error.TheVariants.{Socket, Others, Nix, NoMemory}
+use Rattle.ttrpc_proto.specs.declared.error.Error.TheVariants.{Socket, Others, NoMemory}
 use Rattle.ttrpc_proto.specs.declared.framing.frame.Incoming.{Incoming}
 use Rattle.ttrpc_proto.specs.Framing.Frames.{Frames, IsRest}
 use Rattle.ttrpc_echo.specs.Echo.{AreAnswers}
 
--- All was read, up to the end, which came behind this rest of a frame, and exactly the answers to the frames were
+-- The input was read to its end, which came after this rest of a frame, and exactly the answers to the frames were
 -- written.
 pub record AnsweredAll (before after held holds : Option (List ℕ)) (rest : List ℕ) : Type 0 where
   pub bytes : List ℕ
@@ -20,7 +20,7 @@ pub record AnsweredAll (before after held holds : Option (List ℕ)) (rest : Lis
   pub are_answers : AreAnswers frames answers
   pub wrote : Appends held holds answers
 
--- Some of it was read, and a beginning of the answers to its frames was written.
+-- Some of the input was read, and a beginning of the answers to its frames was written.
 pub record AnsweredPart (before after held holds : Option (List ℕ)) : Type 0 where
   pub bytes : List ℕ
   pub frames : List Incoming
@@ -32,19 +32,20 @@ pub record AnsweredPart (before after held holds : Option (List ℕ)) : Type 0 w
   pub are_answers : AreAnswers frames answers
   pub wrote : Appends held holds (take count answers)
 
--- the reader or the writer failed
-abbrev pub IsOfSystem : Error → Type 0
-IsOfSystem (Nix kind) = ⊤
-IsOfSystem e = ⊥
+-- the reader or the writer failed, or memory for the text of its error was refused
+abbrev pub IsOfStream : Error → Type 0
+IsOfStream (Socket text) = ⊤
+IsOfStream NoMemory = ⊤
+IsOfStream e = ⊥
 
--- memory was refused, the reader or the writer failed, or there were more frames than job ids are left after so many
+-- memory was refused, the reader or the writer failed, or there were more frames than job ids are left after `last`
 abbrev pub IsCausePast : ℕ → Error → List Incoming → Type 0
 IsCausePast last e frames =
     (e ≡ NoMemory)
-    ⊎ IsOfSystem e
+    ⊎ IsOfStream e
     ⊎ ((e ≡ Others (codes "job ids are used up")) × (2 ^ 64 ≤ last + length frames))
 
--- the same of a run whose every frame is among these
+-- the same for a run in which all frames are among these
 abbrev pub IsCause : Error → List Incoming → Type 0
 IsCause e frames = IsCausePast 0 e frames
 
@@ -53,7 +54,7 @@ pub record StopsEarly (before after held holds : Option (List ℕ)) (e : Error) 
   pub part : AnsweredPart before after held holds
   pub cause : IsCause e part.frames
 
--- a run whose input ended inside a frame
+-- a run in which the input ended inside a frame
 pub record EndsInside (before after held holds : Option (List ℕ)) (e : Error) : Type 0 where
   pub rest : List ℕ
   pub inside : rest ≢ []

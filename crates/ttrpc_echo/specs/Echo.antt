@@ -1,4 +1,4 @@
--- What the program answers to frames, one after the other.
+-- The answers of the program to frames, one after the other.
 -- Source: PROTOCOL.md of ttrpc, "Request" and "Response".
 use Rattle.std.specs.Prelude.{◌≡◌, ℕ, ◌%◌, ◌^◌, List, [], ◌∷◌, ◌++◌, length, codes, false, Option, Some, None}
 use Rattle.ttrpc_proto.specs.declared.framing.header.TheConstants.{MESSAGE_LENGTH_MAX, MESSAGE_TYPE_RESPONSE}
@@ -19,11 +19,11 @@ use Rattle.ttrpc_server.specs.Table.{Row, Ignore, SendResponse, SendCode, MakeJo
 abbrev pub echo_services : Services
 echo_services = record { methods = (codes "demo.Echo", codes "Echo" ∷ []) ∷ []; streams = []; bare_openings = false }
 
--- these have its method, and no other
+-- these services have the method `Echo` of `demo.Echo`, and no other
 abbrev pub HasEcho : Services → Type 0
 HasEcho services = (service method : List ℕ) → has_method services service method ≡ has_method echo_services service method
 
--- the echo of a request: an OK status that is there and empty, and the request's payload
+-- the echo of a request: an OK status that is present and empty, and the request's payload
 abbrev pub echo_of : Request → Response
 echo_of request = record { status = Some empty_status; payload = request.payload }
 
@@ -50,7 +50,7 @@ abbrev pub said_bytes : ℕ → Option Response → List ℕ
 said_bytes k None = []
 said_bytes k (Some r) = framed k (response_bytes (fit_to_limit MESSAGE_LENGTH_MAX r))
 
--- the bytes answer the frame, as the table and the echo have it
+-- the bytes answer the frame, by the table and the echo
 pub record IsAnswer (f : Incoming) (bytes : List ℕ) : Type 0 where
   pub said : Option Response
   pub says : Says (sync_row echo_services (header_of_frame f) (plainly f)) said

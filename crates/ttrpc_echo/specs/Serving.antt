@@ -29,7 +29,7 @@ plain_out = record { SEALS = false; overhead = λ _. 0; seals = Keeps; refuses =
 abbrev pub plain_in : InboundTransform Plain
 plain_in = record { opens = Keeps; refuses = RefusesNothing }
 
--- between two fronts: it takes what comes, nothing waits or is at work, and the connection lives
+-- between two fronts: it takes frames, no job waits or runs, and the connection lives
 pub record IsReady (s : ServerCore Plain Plain) : Type 0 where
   pub rules : s.state.rules ≡ Sync
   pub takes : s.state.draining ≡ false
@@ -42,7 +42,7 @@ pub record IsReady (s : ServerCore Plain Plain) : Type 0 where
 abbrev pub MayAnswer : ServerCore Plain Plain → Type 0
 MayAnswer s = (s.state.jobs.list ≡ []) ⊎ (MESSAGE_HEADER_LENGTH + MESSAGE_LENGTH_MAX ≤ free s.connection.outbox.queue)
 
--- a new one: it holds and made nothing, and nothing is to be written
+-- a new core: it is ready, it holds no bytes and made no jobs, and nothing is to be written
 pub record IsFresh (s : ServerCore Plain Plain) : Type 0 where
   pub ready : IsReady s
   pub held : s.connection.decoder ≡ nothing
@@ -60,7 +60,7 @@ pub record EchoesOne (old new : ServerCore Plain Plain) : Type 0 where
 abbrev pub Echoes : ServerCore Plain Plain → ServerCore Plain Plain → Type 0
 Echoes old new = ((new ≡ old) × NoneWaits old.state.jobs.list) ⊎ EchoesOne old new
 
--- a front was fed, and its frames are answered behind what is unsent
+-- a front was fed, and its frames are answered after the unsent bytes
 pub record Serves (old : ServerCore Plain Plain) (front : List ℕ) (new : ServerCore Plain Plain) : Type 0 where
   pub frames : List Incoming
   pub answers : List ℕ
@@ -69,7 +69,7 @@ pub record Serves (old : ServerCore Plain Plain) (front : List ℕ) (new : Serve
   pub more : unsent new.connection.outbox.queue ≡ unsent old.connection.outbox.queue ++ answers
   pub jobs : new.state.jobs.last ≤ old.state.jobs.last + length frames
 
--- the piece has so many frames that job ids are used up
+-- the piece has enough frames that job ids are used up
 abbrev pub UsesUp : ServerCore Plain Plain → List ℕ → Type 0
 UsesUp old piece = (before : List ℕ) → Holds old.connection.decoder before → (frames : List Incoming) × (new : Held) × Fed old.connection.decoder piece frames new × (2 ^ 64 ≤ old.state.jobs.last + length frames)
 
@@ -77,7 +77,7 @@ UsesUp old piece = (before : List ℕ) → Holds old.connection.decoder before �
 abbrev pub IsStop : ServerCore Plain Plain → List ℕ → Error → Type 0
 IsStop old piece e = (e ≡ NoMemory) ⊎ ((e ≡ Others (codes "job ids are used up")) × UsesUp old piece)
 
--- What was unsent left, as far as the writer took it.
+-- The bytes that the writer took are no longer unsent.
 pub record WritesOut (old : ServerCore Plain Plain) (holding : Option (List ℕ)) (new : ServerCore Plain Plain) (holds : Option (List ℕ)) : Type 0 where
   pub bytes : List ℕ
   pub sent : unsent old.connection.outbox.queue ≡ bytes ++ unsent new.connection.outbox.queue
@@ -85,7 +85,7 @@ pub record WritesOut (old : ServerCore Plain Plain) (holding : Option (List ℕ)
   pub held : new.connection.decoder ≡ old.connection.decoder
   pub last_job : new.state.jobs.last ≡ old.state.jobs.last
 
--- A piece was served, and all that answers it was written.
+-- A piece was served, and all of its answers were written.
 pub record PassesOn (old : ServerCore Plain Plain) (held : Option (List ℕ)) (piece : List ℕ) (new : ServerCore Plain Plain) (holds : Option (List ℕ)) : Type 0 where
   pub frames : List Incoming
   pub answers : List ℕ

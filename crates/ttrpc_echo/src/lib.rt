@@ -1,11 +1,11 @@
-//! The service `demo.Echo` of the program `ttrpc-demo`, and the engine that answers the frames of an input, over any reader
-//! and writer. In `program` what the program does at its words.
+//! The service `demo.Echo` of the program `ttrpc-demo`, and the engine that answers the frames of an input, over any
+//! reader and writer. The module `program` has the commands of the program.
 #![tactic(auto)]
 
 mod engine;
 pub mod program;
 
-pub use engine::{answer, echo, flush};
+pub use engine::{answer, broken, echo, flush};
 pub use program::{
     Echo, EchoServer, FaultKeeper, Faults, Outcome, System, call_at, call_own, run, start_server,
     tell, tell_address,

@@ -1,18 +1,18 @@
--- How a run of the program ends, and what it tells then.
+-- How a run of the program ends, and its report then.
 -- Source: this project's.
 use Rattle.std.specs.Prelude.{ℕ, List, [], ◌++◌, codes, Option, Some, option_map}
 use Rattle.ttrpc_proto.specs.ErrorText.{error_text}
 use Rattle.ttrpc_echo.specs.declared.program.outcome.Outcome.{Outcome}
 use Rattle.ttrpc_echo.specs.declared.program.outcome.Outcome.TheVariants.{Done, Refused, WrongWords, Failed}
 
--- how it ends
+-- the status
 abbrev pub status_of : Outcome → ℕ
 status_of Done = 0
 status_of Refused = 1
 status_of (Failed e) = 1
 status_of WrongWords = 2
 
--- what it tells on standard error, where that is known
+-- the report on standard error, if its text is known
 abbrev pub report_of : Outcome → Option (List ℕ)
 report_of Done = Some []
 report_of Refused = Some []

@@ -1,4 +1,4 @@
--- What the program does at its words.
+-- The commands of the program.
 -- Source: this project's.
 use Rattle.std.specs.Prelude.{◌≡◌, ◌≢◌, ◌⊎◌, ℕ, List, [], ◌∷◌, codes, Option, IfSome}
 use Rattle.std.specs.Io.KnownBytes.{Appends, Keeps}
@@ -18,15 +18,15 @@ Answers before after held holds (Failed e) = Fails before after held holds e
 Answers before after held holds Refused = ⊥
 Answers before after held holds WrongWords = ⊥
 
--- The words are wrong, since they aren't as they should be, or memory was refused.
+-- The words are wrong, since they aren't `right`, or memory was refused.
 abbrev pub IsMisread : Type 0 → Outcome → Type 0
 IsMisread right Done = ⊥
 IsMisread right Refused = ⊥
 IsMisread right (Failed e) = e ≡ NoMemory
 IsMisread right WrongWords = ¬ right
 
--- Where the words are right, a call was made, and its answer was told, or its refusal; or it failed before it told
--- anything, or in telling. Otherwise nothing was done.
+-- If the words are right, a call was made, and its response or its refusal was written. Or the program failed, before
+-- or while it wrote. If the words are wrong, nothing was done.
 abbrev pub Calls : Type 0 → Option (List ℕ) → Option (List ℕ) → Outcome → Type 0
 Calls right held holds Done = right × ((r : Response) × Appends held holds (ok_line r.payload))
 Calls right held holds Refused = right × ((e : Error) × IfSome (error_line e) (Appends held holds))
@@ -37,15 +37,15 @@ Calls right held holds WrongWords = ¬ right × Keeps held holds
 abbrev pub IsFailed : Outcome → Type 0
 IsFailed outcome = (e : Error) × (outcome ≡ Failed e)
 
--- none of the words by which it is called
+-- the words give none of the commands
 pub record AreWrong (words : List (List ℕ)) : Type 0 where
   pub answer : words ≢ codes "answer" ∷ []
   pub own : (digits : List ℕ) → words ≢ codes "loop" ∷ digits ∷ []
   pub serve : (address : List ℕ) → words ≢ codes "serve" ∷ address ∷ []
   pub call : (a s m d t : List ℕ) → words ≢ codes "call" ∷ a ∷ s ∷ m ∷ d ∷ t ∷ []
 
--- It answers the input, calls itself, serves, calls another, or finds that the words are others. But to answer it reads
--- nothing, and to serve it writes nothing.
+-- The program answers the input, calls itself, serves, calls another, or finds that the words are wrong. Only `answer`
+-- reads the input. `serve` and wrong words write no output.
 abbrev pub Performs : List (List ℕ) → Option (List ℕ) → Option (List ℕ) → Option (List ℕ) → Option (List ℕ) → Outcome → Type 0
 Performs words before after held holds outcome =
     (IsAnswer words × Answers before after held holds outcome)

@@ -1,4 +1,4 @@
--- The line that tells what came of a call.
+-- The line that reports the result of a call.
 -- Source: this project's.
 use Rattle.std.specs.Prelude.{◌≡◌, ◌⊎◌, ℕ, List, [], ◌∷◌, ◌++◌, codes, Option, IfSome, option_map, Result, Ok, Err}
 use Rattle.std.specs.Io.KnownBytes.{Appends}
@@ -7,24 +7,24 @@ use Rattle.ttrpc_proto.specs.declared.error.Error.{Error}
 use Rattle.ttrpc_proto.specs.declared.error.Error.TheVariants.{NoMemory}
 use Rattle.ttrpc_proto.specs.ErrorText.{error_text}
 use Rattle.ttrpc_proto.specs.declared.messages.Response.{Response}
-use Rattle.ttrpc_echo.specs.Answered.{IsOfSystem}
+use Rattle.ttrpc_echo.specs.Answered.{IsOfStream}
 use Rattle.ttrpc_echo.specs.declared.program.outcome.Outcome.{Outcome}
 use Rattle.ttrpc_echo.specs.declared.program.outcome.Outcome.TheVariants.{Done, Refused, WrongWords, Failed}
 
--- the line that tells an answer
+-- the line of a response
 abbrev pub ok_line : List ℕ → List ℕ
 ok_line [] = codes "ok\n"
 ok_line (b ∷ bytes) = codes "ok " ++ encode_lower (b ∷ bytes) ++ codes "\n"
 
--- the line that tells a refusal, where its text is known
+-- the line of a refusal, if its text is known
 abbrev pub error_line : Error → Option (List ℕ)
 error_line e = option_map (λ text. codes "error: " ++ text ++ codes "\n") (error_text e)
 
--- why nothing, or not all of a line, was told: memory was refused, or the writer failed
+-- why no line, or only a part of it, was written: memory was refused, or the writer failed
 abbrev pub IsUntold : Error → Type 0
-IsUntold e = (e ≡ NoMemory) ⊎ IsOfSystem e
+IsUntold e = (e ≡ NoMemory) ⊎ IsOfStream e
 
--- a call is told: its answer or its refusal, in a line
+-- the result of a call is written in a line: its payload or its refusal
 abbrev pub TellsCall : Result Response Error → Option (List ℕ) → Option (List ℕ) → Outcome → Type 0
 TellsCall (Ok r) held holds Done = Appends held holds (ok_line r.payload)
 TellsCall (Ok r) held holds Refused = ⊥

@@ -6,20 +6,20 @@ use Rattle.std.specs.Str.Parse.{ParsesSigned}
 use Rattle.hex.specs.Hex.{decode_of}
 use Rattle.ttrpc_proto.specs.declared.messages.Request.{Request}
 
--- the word at which it answers
+-- the word `answer`
 abbrev pub IsAnswer : List (List ℕ) → Type 0
 IsAnswer words = words ≡ codes "answer" ∷ []
 
--- a first word, and the second behind it
+-- a first word, and the second after it
 abbrev pub IsBehind : List ℕ → List (List ℕ) → List ℕ → Type 0
 IsBehind first words second = words ≡ first ∷ second ∷ []
 
--- the words at which it calls: address, service, method, digits and timeout
+-- the words of a call: address, service, method, digits and timeout
 abbrev pub IsCall : List (List ℕ) → List ℕ → List ℕ → List ℕ → List ℕ → List ℕ → Type 0
 IsCall words address service method digits timeout =
     words ≡ codes "call" ∷ address ∷ service ∷ method ∷ digits ∷ timeout ∷ []
 
--- the digits, two for each byte, stand for bytes
+-- the digits, two for each byte, encode bytes
 abbrev pub IsHex : List ℕ → Type 0
 IsHex digits = (payload : List ℕ) × (decode_of digits ≡ Ok payload)
 
@@ -31,11 +31,12 @@ told n = Ok n
 abbrev pub IsTimeout : List ℕ → ℤ → Type 0
 IsTimeout text n = ParsesSigned w64 10 text (told n)
 
--- the digits stand for bytes, and the text for a number
+-- the digits encode bytes, and the text is a number
 abbrev pub AreRight : List ℕ → List ℕ → Type 0
 AreRight digits text = IsHex digits × ((n : ℤ) × IsTimeout text n)
 
--- the request asks for this method of this service, with the bytes of these digits and the number of this text, and no metadata
+-- the request asks for this method of this service, with the bytes of these digits and the number of this text, and has
+-- no metadata
 abbrev pub AsksBy : List ℕ → List ℕ → List ℕ → List ℕ → Request → Type 0
 AsksBy service method digits text request =
     (request.service ≡ service) × (request.method ≡ method) × (decode_of digits ≡ Ok request.payload) × IsTimeout text request.timeout_nano × (request.metadata ≡ [])

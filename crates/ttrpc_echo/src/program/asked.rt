@@ -10,7 +10,7 @@ use std::alloc::{AllocError, Global};
 use ttrpc_proto::{Error, Request};
 use ttrpc_wire::{Blob, Sequence, Text};
 
-/// The bytes that these digits stand for.
+/// Returns the bytes that these hex digits encode.
 pub fn payload_of(alloc: Global, digits: &str) -> Result<Vec<u8>, Outcome>
     ensures ok { IfOk result (λ payload. decode_of digits.now ≡ Ok payload.items) }
     ensures err { IfErr result (IsMisread (IsHex digits.now)) }
@@ -22,7 +22,7 @@ pub fn payload_of(alloc: Global, digits: &str) -> Result<Vec<u8>, Outcome>
     }
 }
 
-/// The number of nanoseconds that this text writes.
+/// Returns the number of nanoseconds that this text writes.
 pub fn timeout_of(text: &str) -> Option<i64>
     ensures some { IfSome result (IsTimeout text.now) }
     ensures none { IfNone result ((n : ℤ) → ¬ (IsTimeout text.now n)) }
@@ -30,7 +30,7 @@ pub fn timeout_of(text: &str) -> Option<i64>
     text.parse::<i64>().ok()
 }
 
-/// The request of a method with this payload, without metadata.
+/// Returns the request of a method with this payload, without metadata.
 pub fn request_of(
     alloc: Global,
     service: &str,

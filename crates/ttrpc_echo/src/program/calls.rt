@@ -14,14 +14,15 @@ use ttrpc_proto::{Error, Request, Response, Result as Answered};
 use ttrpc_sync_client::Client;
 use ttrpc_sync_server::NoWatch;
 
-/// Calls what the words say, and tells what came of it.
+/// Makes the call that the words give, and writes its result.
 pub fn call<R: System + 'static, W: Write>(
     rt: R,
     words: CallWords<'_>,
     nodelay: bool,
     output: &mut W,
 ) -> Outcome
-    ensures { Calls (AreRight words.entry.digits.now words.entry.timeout.now) (W.contents output.old) (W.contents output.new) result }
+    ensures { Calls (AreRight words.entry.digits.now words.entry.timeout.now)
+        (W.contents output.old) (W.contents output.new) result }
 {
     let alloc = rt.alloc();
     match request(alloc, words) {
@@ -30,7 +31,7 @@ pub fn call<R: System + 'static, W: Write>(
     }
 }
 
-/// Calls `Echo` of a server of this process with the bytes of these digits, and tells what came of it.
+/// Calls `Echo` of a server of this process with the bytes of these digits, and writes the result.
 pub fn call_own_with<R: System + 'static, W: Write>(rt: R, digits: &str, output: &mut W) -> Outcome
     ensures { Calls (IsHex digits.now) (W.contents output.old) (W.contents output.new) result }
 {
@@ -41,11 +42,13 @@ pub fn call_own_with<R: System + 'static, W: Write>(rt: R, digits: &str, output:
     }
 }
 
-/// The request that the words ask for.
+/// Returns the request that the words ask for.
 fn request(alloc: Global, words: CallWords<'_>) -> Result<Request, Outcome>
     ensures right { OnOk result (AreRight words.entry.digits.now words.entry.timeout.now) }
-    ensures ok { IfOk result (AsksBy words.entry.service.now words.entry.method.now words.entry.digits.now words.entry.timeout.now) }
-    ensures err { IfErr result (IsMisread (AreRight words.entry.digits.now words.entry.timeout.now)) }
+    ensures ok { IfOk result (AsksBy words.entry.service.now words.entry.method.now
+        words.entry.digits.now words.entry.timeout.now) }
+    ensures err { IfErr result
+        (IsMisread (AreRight words.entry.digits.now words.entry.timeout.now)) }
 {
     let payload = payload_of(alloc, words.digits)?;
     let Some(timeout_nano) = timeout_of(words.timeout) else {
@@ -57,7 +60,7 @@ fn request(alloc: Global, words: CallWords<'_>) -> Result<Request, Outcome>
     }
 }
 
-/// Tells what came of a call, where it was made.
+/// Writes the result of a call if the call was made. Otherwise returns the error.
 fn told<W: Write>(alloc: Global, called: Answered<Answered<Response>>, output: &mut W) -> Outcome
     ensures { Calls ⊤ (W.contents output.old) (W.contents output.new) result }
 {
@@ -67,7 +70,8 @@ fn told<W: Write>(alloc: Global, called: Answered<Answered<Response>>, output: &
     }
 }
 
-/// Calls a server at an address. The outer error is that of the address or of connecting, and the inner result the call's.
+/// Calls a server at an address. The outer error is that of the address or of connecting, and the inner result is the
+/// call's.
 pub fn call_at<R: System + 'static>(
     rt: R,
     address: &str,

@@ -1,4 +1,4 @@
-//! The faults of a server, until they are told.
+//! The faults of a server, which are kept until they are reported.
 use std::alloc::Global;
 use std::collections::VecDeque;
 use std::sync::{Arc, Condvar, Mutex, Wait};
@@ -6,10 +6,11 @@ use ttrpc_proto::{Error, Result};
 use ttrpc_sync::Host;
 use ttrpc_sync_server::Watch;
 
-/// How many faults are kept until they are told. More are passed over: who serves isn't held by who tells.
+/// The number of faults that are kept until they are reported. More are dropped, so that slow reporting doesn't hold
+/// the server.
 const FAULTS_KEPT: usize = 64;
 
-/// The faults that are still to be told, each by its text.
+/// The faults that are still to be reported, each as its text.
 #[derive(Drop)]
 pub struct Faults {
     texts: Mutex<VecDeque<String>>,
@@ -17,7 +18,7 @@ pub struct Faults {
 }
 
 impl Faults {
-    /// None. Takes no memory.
+    /// Returns an empty list of faults. Takes no memory.
     pub fn new(alloc: Global) -> Faults {
         Faults {
             texts: Mutex::new(VecDeque::new(alloc)),
@@ -25,7 +26,7 @@ impl Faults {
         }
     }
 
-    /// Waits for the next one.
+    /// Waits for the next fault, removes it and returns it.
     pub fn next<X: Wait>(&self, rt: &X) -> String {
         let mut texts = self.texts.lock(rt);
         for _ in rt.forever() {
@@ -37,7 +38,7 @@ impl Faults {
         unreachable!()
     }
 
-    /// Adds one, if few enough are kept and there is memory for it.
+    /// Adds a fault, if fewer than `FAULTS_KEPT` are kept and there is memory for it.
     fn add<X: Wait>(&self, rt: &X, text: String) {
         let mut texts = self.texts.lock(rt);
         if texts.len() < FAULTS_KEPT {
@@ -48,7 +49,7 @@ impl Faults {
     }
 }
 
-/// A server's watch, which keeps each fault until it is told.
+/// A server's watch, which keeps each fault until it is reported.
 #[derive(Drop)]
 pub struct FaultKeeper<R: Host> {
     rt: R,
@@ -56,7 +57,7 @@ pub struct FaultKeeper<R: Host> {
 }
 
 impl<R: Host> FaultKeeper<R> {
-    /// It keeps the faults there.
+    /// Returns a watch that keeps the faults there.
     pub fn new(rt: &R, faults: &Arc<Faults, Global>) -> Result<FaultKeeper<R>> {
         Ok(FaultKeeper {
             rt: rt.clone()?,

@@ -1,5 +1,5 @@
-//! What the program `ttrpc-demo` does at its words, over any reader and writers: it answers the frames of an input, serves
-//! `demo.Echo` at an address, calls a method of a server, or calls its own.
+//! The commands of the program `ttrpc-demo`, over any reader and writers: it answers the frames of an input, serves
+//! `demo.Echo` at an address, calls a method of a server, or calls its own server.
 
 mod asked;
 mod calls;
@@ -27,8 +27,8 @@ use crate::program::words::{are_answer, call_words, word_behind};
 use std::alloc::Global;
 use std::io::{Read, Write};
 
-/// Does what the words say, and tells on `errors` what went wrong. Whether each write by TCP goes out at once is `nodelay`.
-/// Gives the status: 0, 1 at a failure or a refused call, and 2 at wrong words.
+/// Runs the command that the words give, and reports failures on `errors`. With `nodelay`, each write by TCP goes out
+/// at once. Returns the status: 0, or 1 at a failure or a refused call, or 2 if the words are wrong.
 pub fn run<S: System + 'static, R: Read, W: Write, X: Write>(
     rt: S,
     words: &[String],
@@ -37,13 +37,14 @@ pub fn run<S: System + 'static, R: Read, W: Write, X: Write>(
     output: &mut W,
     errors: &mut X,
 ) -> u8
-    ensures { (outcome : AnOutcome) × (result ≡ status_of outcome) × Performs (map string_bytes words.now)
-        (R.remaining input.old) (R.remaining input.new) (W.contents output.old) (W.contents output.new) outcome }
+    ensures { (outcome : AnOutcome) × (result ≡ status_of outcome)
+        × Performs (map string_bytes words.now) (R.remaining input.old) (R.remaining input.new)
+        (W.contents output.old) (W.contents output.new) outcome }
 {
     tell(&perform(rt, words, nodelay, input, output, errors), errors)
 }
 
-/// Does what the words say.
+/// Runs the command that the words give.
 fn perform<S: System + 'static, R: Read, W: Write, X: Write>(
     rt: S,
     words: &[String],
@@ -52,8 +53,8 @@ fn perform<S: System + 'static, R: Read, W: Write, X: Write>(
     output: &mut W,
     errors: &mut X,
 ) -> Outcome
-    ensures { Performs (map string_bytes words.now)
-        (R.remaining input.old) (R.remaining input.new) (W.contents output.old) (W.contents output.new) result }
+    ensures { Performs (map string_bytes words.now) (R.remaining input.old) (R.remaining input.new)
+        (W.contents output.old) (W.contents output.new) result }
 {
     if are_answer(words) {
         return answer_input(rt.alloc(), input, output);
@@ -72,7 +73,8 @@ fn perform<S: System + 'static, R: Read, W: Write, X: Write>(
 
 /// Answers the frames of the input.
 fn answer_input<R: Read, W: Write>(alloc: Global, input: &mut R, output: &mut W) -> Outcome
-    ensures { Answers (R.remaining input.old) (R.remaining input.new) (W.contents output.old) (W.contents output.new) result }
+    ensures { Answers (R.remaining input.old) (R.remaining input.new)
+        (W.contents output.old) (W.contents output.new) result }
 {
     match answer(alloc, input, output) {
         Ok(()) => Outcome::Done,

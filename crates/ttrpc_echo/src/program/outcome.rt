@@ -13,17 +13,17 @@ const USAGE: &str =
 /// How a run of the program ended.
 #[derive(Drop)]
 pub enum Outcome {
-    /// All was answered, or the call was.
+    /// The command succeeded.
     Done,
-    /// The call was refused, and its error told on the output.
+    /// The call was refused, and its error was written to the output.
     Refused,
-    /// The words aren't ones that it is called by.
+    /// The words give no command, or can't be read.
     WrongWords,
     Failed(Error),
 }
 
 impl Outcome {
-    /// The status that the program ends with.
+    /// Returns the status that the program ends with.
     fn status(&self) -> u8
         ensures { result ≡ status_of self.now }
     {
@@ -34,9 +34,10 @@ impl Outcome {
         }
     }
 
-    /// Tells what went wrong, in a line.
+    /// Reports a failure in a line.
     fn report<X: Write>(&self, errors: &mut X) -> io::Result<()>
-        ensures { OnOk result (IfSome (report_of self.now) (Appends (X.contents errors.old) (X.contents errors.new))) }
+        ensures { OnOk result (IfSome (report_of self.now)
+            (Appends (X.contents errors.old) (X.contents errors.new))) }
     {
         match self {
             Outcome::Done | Outcome::Refused => Ok(()),
@@ -46,7 +47,7 @@ impl Outcome {
     }
 }
 
-/// Tells what went wrong, and gives the status.
+/// Reports a failure, and returns the status.
 pub fn tell<X: Write>(outcome: &Outcome, errors: &mut X) -> u8
     ensures { result ≡ status_of outcome.now }
 {

@@ -8,12 +8,12 @@ use ttrpc_secure::{InboundTransform, OutboundTransform};
 use ttrpc_sync::{Host, Runtime};
 use ttrpc_sync_server::{MethodHandler, NoHook, Server, SharedWatch, TtrpcContext};
 
-/// What the program asks of the system.
+/// The parts of the system that the program uses.
 pub trait System: Runtime + Files + Net<Listener = TcpListener, Stream = TcpStream> {}
 
 impl<R: Runtime + Files + Net<Listener = TcpListener, Stream = TcpStream>> System for R {}
 
-/// The method `Echo`, which answers the request's payload under an OK status that is there and empty.
+/// The method `Echo`, which answers with the request's payload and an OK status that is present and empty.
 #[derive(Clone, Copy, Debug)]
 pub struct Echo {}
 
@@ -31,7 +31,7 @@ where
 /// A server of the one method `Echo` of `demo.Echo`, and its watch.
 pub type EchoServer<R, W> = Server<R, Echo, NoHook, W>;
 
-/// The server, listening at this address. Whether each write by TCP goes out at once is `nodelay`.
+/// Starts the server, which listens at this address. With `nodelay`, each write by TCP goes out at once.
 pub fn start_server<R: System + 'static, W: SharedWatch>(
     rt: R,
     address: &str,

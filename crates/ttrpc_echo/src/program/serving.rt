@@ -9,10 +9,11 @@ use std::io::{self, Write};
 use std::sync::{Arc, Wait};
 use ttrpc_proto::{Error, Result};
 
-/// A server whose faults are told.
+/// A server with a watch that keeps its faults.
 pub type WatchedServer<R> = EchoServer<R, FaultKeeper<R>>;
 
-/// Serves at this address until the program is killed. It tells on `errors` where it listens, and then each of its faults.
+/// Serves at this address until the program is killed. It reports on `errors` where it listens, and then each of its
+/// faults. It returns only if it can't begin.
 pub fn serve<R: System + 'static, X: Write>(
     rt: R,
     address: &str,
@@ -32,13 +33,14 @@ pub fn serve<R: System + 'static, X: Write>(
     unreachable!()
 }
 
-/// Waits for the next of these faults, and tells it in a line. Where nobody reads that, the server serves all the same.
+/// Waits for the next of these faults, and reports it in a line. If the line can't be written, the server still serves.
 pub fn tell_next<R: Wait, X: Write>(rt: &R, faults: &Faults, errors: &mut X) {
     let fault = faults.next(rt);
     let _ = writeln!(errors, "ttrpc-demo: {fault}");
 }
 
-/// The server, listening, its faults, and what its process waits by. It has told on `errors` where it listens.
+/// Starts the server and reports on `errors` where it listens. Returns a runtime to wait with, the server's faults, and
+/// the server.
 pub fn begin<R: System + 'static, X: Write>(
     rt: R,
     address: &str,
@@ -53,7 +55,8 @@ pub fn begin<R: System + 'static, X: Write>(
     Ok((waiter, faults, server))
 }
 
-/// Tells in a line where the server listens: its address, with the port that the system chose where that was 0.
+/// Reports in a line where the server listens: at the address of its socket, with the port that the system chose if the
+/// port was 0. If the server has no such address, the line has `address` instead.
 pub fn tell_address<R: System, W: Drop, X: Write>(
     server: &EchoServer<R, W>,
     address: &str,

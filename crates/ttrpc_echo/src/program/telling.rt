@@ -1,16 +1,16 @@
-//! The line that tells what came of a call.
+//! The line that reports the result of a call.
 ghost use Rattle.std.specs.Prelude.{◌≡◌, IsOk, OnOk, IfErr, IfSome};
 ghost use Rattle.std.specs.Io.KnownBytes.{Appends, Keeps};
 ghost use Rattle.ttrpc_echo.specs.Program.Telling.{error_line, ok_line, IsUntold, TellsCall};
 
-use crate::flush;
 use crate::program::outcome::Outcome;
+use crate::{broken, flush};
 use std::alloc::Global;
 use std::io;
 use std::io::Write;
 use ttrpc_proto::{Error, Response};
 
-/// Tells what came of a call, in a line of the output.
+/// Writes the result of a call in a line of the output.
 pub fn tell_call<W: Write>(
     alloc: Global,
     called: Result<Response, Error>,
@@ -23,41 +23,43 @@ pub fn tell_call<W: Write>(
             Ok(()) => Outcome::Done,
             Err(error) => Outcome::Failed(error),
         },
-        Err(refusal) => match tell_refusal(&refusal, output) {
+        Err(refusal) => match tell_refusal(alloc, &refusal, output) {
             Ok(()) => Outcome::Refused,
             Err(error) => Outcome::Failed(error),
         },
     }
 }
 
-/// Tells the payload of an answer, in a line.
+/// Writes the payload of a response in a line.
 fn tell_payload<W: Write>(alloc: Global, payload: &[u8], output: &mut W) -> Result<(), Error>
-    ensures ok { OnOk result (Appends (W.contents output.old) (W.contents output.new) (ok_line payload.now)) }
+    ensures ok { OnOk result
+        (Appends (W.contents output.old) (W.contents output.new) (ok_line payload.now)) }
     ensures err { IfErr result IsUntold }
 {
     if payload.is_empty() {
-        return end_line(writeln!(output, "ok"), output);
+        return end_line(alloc, writeln!(output, "ok"), output);
     }
     let digits = hex::encode(alloc, payload)?;
-    end_line(writeln!(output, "ok {}", digits.as_str()), output)
+    end_line(alloc, writeln!(output, "ok {}", digits.as_str()), output)
 }
 
-/// Tells why a call was refused, in a line.
-fn tell_refusal<W: Write>(refusal: &Error, output: &mut W) -> Result<(), Error>
-    ensures ok { OnOk result (IfSome (error_line refusal.now) (Appends (W.contents output.old) (W.contents output.new))) }
+/// Writes the error of a refused call in a line.
+fn tell_refusal<W: Write>(alloc: Global, refusal: &Error, output: &mut W) -> Result<(), Error>
+    ensures ok { OnOk result (IfSome (error_line refusal.now)
+        (Appends (W.contents output.old) (W.contents output.new))) }
     ensures err { IfErr result IsUntold }
 {
-    end_line(writeln!(output, "error: {refusal}"), output)
+    end_line(alloc, writeln!(output, "error: {refusal}"), output)
 }
 
-/// Flushes the writer of a line that was written. An error is told by its kind.
-fn end_line<W: Write>(written: io::Result<()>, output: &mut W) -> Result<(), Error>
+/// Flushes the writer after a line was written. Returns the error if the line couldn't be written.
+fn end_line<W: Write>(alloc: Global, written: io::Result<()>, output: &mut W) -> Result<(), Error>
     ensures ok { OnOk result (IsOk written) }
     ensures kept { Keeps (W.contents output.old) (W.contents output.new) }
     ensures err { IfErr result IsUntold }
 {
     match written {
-        Ok(()) => flush(output),
-        Err(error) => Err(Error::Nix(error.kind())),
+        Ok(()) => flush(alloc, output),
+        Err(error) => Err(broken(alloc, &error)),
     }
 }

@@ -1,8 +1,8 @@
-//! Which words the program is called by.
+//! The words that the program is called by.
 ghost use Rattle.std.specs.Prelude.{◌≡◌, ◌≢◌, ◌↔◌, ◌∷◌, [], List, ℕ, true, map, string_bytes, codes, IfSome, IfNone};
 ghost use Rattle.ttrpc_echo.specs.Program.Words.{IsAnswer, IsBehind, IsCall};
 
-/// What stands behind the word `call`: an address, a service, a method, the payload's digits and a limit of time.
+/// The words after `call`: an address, a service, a method, the payload's hex digits and a timeout.
 #[derive(Clone, Copy, Debug)]
 pub struct CallWords<'a> {
     pub address: &'a str,
@@ -12,7 +12,7 @@ pub struct CallWords<'a> {
     pub timeout: &'a str,
 }
 
-/// Whether they are the one word at which it answers.
+/// Returns whether the words are the one word `answer`.
 pub fn are_answer(words: &[String]) -> bool
     ensures { (result ≡ true) ↔ IsAnswer (map string_bytes words.now) }
 {
@@ -22,10 +22,12 @@ pub fn are_answer(words: &[String]) -> bool
     }
 }
 
-/// The word behind this first one, where there are these two.
+/// Returns the second of two words, if the first of them is `first`.
 pub fn word_behind<'a>(words: &'a [String], first: &str) -> Option<&'a str>
-    ensures some { IfSome result (λ second. IsBehind first.now (map string_bytes words.now) second.now) }
-    ensures none { IfNone result ((second : List ℕ) → map string_bytes words.now ≢ first.now ∷ second ∷ []) }
+    ensures some { IfSome result
+        (λ second. IsBehind first.now (map string_bytes words.now) second.now) }
+    ensures none { IfNone result
+        ((second : List ℕ) → map string_bytes words.now ≢ first.now ∷ second ∷ []) }
 {
     match words {
         [word, second] => {
@@ -39,11 +41,12 @@ pub fn word_behind<'a>(words: &'a [String], first: &str) -> Option<&'a str>
     }
 }
 
-/// The words behind `call`, if there are five.
+/// Returns the five words after `call`. Returns `None` if the words are others.
 pub fn call_words(words: &[String]) -> Option<CallWords<'_>>
     ensures some { IfSome result (λ call. IsCall (map string_bytes words.now)
         call.address.now call.service.now call.method.now call.digits.now call.timeout.now) }
-    ensures none { IfNone result ((a s m d t : List ℕ) → map string_bytes words.now ≢ codes "call" ∷ a ∷ s ∷ m ∷ d ∷ t ∷ []) }
+    ensures none { IfNone result ((a s m d t : List ℕ)
+        → map string_bytes words.now ≢ codes "call" ∷ a ∷ s ∷ m ∷ d ∷ t ∷ []) }
 {
     match words {
         [word, address, service, method, digits, timeout] => {

@@ -1,4 +1,4 @@
-//! The word `call`, beside a server of this process.
+//! The word `call`, with a server of this process.
 use crate::tests::runs::{ROOM, Ran, Sockets, Tester, add_word, run_words, words_of};
 use crate::tests::{Holds, Tested};
 use std::alloc::Global;
@@ -11,7 +11,7 @@ use ttrpc_echo::{EchoServer, FaultKeeper, Faults, start_server, tell_address};
 use ttrpc_proto::Error;
 use ttrpc_sync_server::{NoWatch, Watch};
 
-/// A call of the server: service, method, digits and limit of time, and then the status and the output.
+/// A call of the server: service, method, digits and timeout, and then the status and the output.
 type Call = (&'static [&'static str; 4], u8, &'static [u8]);
 
 const CALLS: &[Call] = &[
@@ -34,7 +34,7 @@ const CALLS: &[Call] = &[
     ),
 ];
 
-/// The word `call`, the address and these words.
+/// Returns the word `call`, the address and these words.
 fn call_words(alloc: Global, address: &str, rest: &[&str]) -> Result<Vec<String>, Fail> {
     let mut words = words_of(alloc, &["call", address])?;
     for word in rest {
@@ -55,7 +55,7 @@ fn called<S: Tester + 'static>(rt: &S, address: &str, rest: &[&str]) -> Result<R
     }
 }
 
-/// Returns whether the call at this address ends as its row says, and tells of no error.
+/// Returns whether the call at this address ends as its row expects, and reports no error.
 fn is_told<S: Tester + 'static>(rt: &S, address: &str, call: &Call) -> Holds {
     let (words, status, output) = call;
     let ran = called(rt, address, words.as_slice())?;
@@ -63,7 +63,7 @@ fn is_told<S: Tester + 'static>(rt: &S, address: &str, call: &Call) -> Holds {
     Ok(is_answered && ran.errors.is_empty())
 }
 
-/// What a server tells of its address.
+/// Returns the line in which a server reports its address.
 fn told_line<S: Tester>(
     rt: &S,
     server: &EchoServer<S, NoWatch>,
@@ -74,7 +74,7 @@ fn told_line<S: Tester>(
     Ok(String::from_utf8(line).map_err(|_| Fail::from("not UTF-8"))?)
 }
 
-/// A server at a path tells it in a line.
+/// A server at a path reports it in a line.
 #[test]
 fn a_path_is_told(rt: HostRuntime) -> Tested {
     let _ = fs::remove_file(&rt, "told.sock");
@@ -86,7 +86,7 @@ fn a_path_is_told(rt: HostRuntime) -> Tested {
     Ok(())
 }
 
-/// What is told of a server that begins at an address, and then of a fault.
+/// Returns the reports of a server that begins at an address, and then of a fault.
 fn told_of<S: Tester + 'static>(rt: &S, address: &str) -> Result<Vec<u8>, Fail> {
     let mut errors = Vec::new(rt.alloc());
     let (waiter, faults, server) = begin(rt.clone()?, address, true, &mut errors)?;
@@ -96,7 +96,7 @@ fn told_of<S: Tester + 'static>(rt: &S, address: &str) -> Result<Vec<u8>, Fail> 
     Ok(errors)
 }
 
-/// Who serves tells first where, and then what went wrong.
+/// A server reports first its address, and then its faults.
 #[test]
 fn a_server_tells_its_address_and_its_faults(rt: HostRuntime) -> Tested {
     let _sockets: Sockets = None;
@@ -115,7 +115,7 @@ fn next_is<X: Wait>(rt: &X, faults: &Faults, text: &str) -> bool {
     faults.next(rt).as_str() == text
 }
 
-/// Returns whether so many faults of handlers come next.
+/// Returns whether the next `count` faults are those of handlers.
 fn handlers_are_next<X: Wait>(rt: &X, faults: &Faults, count: usize) -> bool {
     for _ in 0..count {
         if !next_is(
@@ -129,7 +129,7 @@ fn handlers_are_next<X: Wait>(rt: &X, faults: &Faults, count: usize) -> bool {
     true
 }
 
-/// Returns whether a fault to accept comes next, then a missing worker, and then 62 faults of handlers.
+/// Returns whether the next faults are a failed accept, then a missing worker, and then 62 failed handlers.
 fn are_kept<X: Wait>(rt: &X, faults: &Faults) -> bool {
     next_is(rt, faults, "no connection was accepted: eof")
         && next_is(
@@ -140,7 +140,7 @@ fn are_kept<X: Wait>(rt: &X, faults: &Faults) -> bool {
         && handlers_are_next(rt, faults, 62)
 }
 
-/// Faults are kept in order until they are told, up to 64; who is to tell them waits for the next.
+/// Faults are kept in order until they are reported, up to 64. A thread that reports them waits for the next.
 #[test]
 fn faults_are_kept_until_they_are_told(rt: HostRuntime) -> Tested {
     let faults = Arc::new(rt.alloc(), Faults::new(rt.alloc()))?;
@@ -163,7 +163,7 @@ fn faults_are_kept_until_they_are_told(rt: HostRuntime) -> Tested {
     Ok(())
 }
 
-/// The address that a line tells.
+/// Returns the address in a line.
 fn address_in(line: &str) -> Result<&str, Fail> {
     let address = line
         .strip_prefix("ttrpc-demo: listening at ")
@@ -172,7 +172,7 @@ fn address_in(line: &str) -> Result<&str, Fail> {
     Ok(address)
 }
 
-/// Returns whether nobody is called at this address.
+/// Returns whether a call to this address finds no server.
 fn nobody_is_called<S: Tester + 'static>(rt: &S, address: &str) -> Holds {
     let ran = called(rt, address, &["x", "y", "2a", "0"])?;
     let is_quiet = ran.status == 1 && ran.output.is_empty();
@@ -185,7 +185,8 @@ fn nobody_is_called<S: Tester + 'static>(rt: &S, address: &str) -> Holds {
     )
 }
 
-/// A server with port 0 tells its address in a line, and is called there. Once it is shut down, nobody is.
+/// A server with port 0 reports its address in a line, and is called there. After its shutdown no server is found
+/// there.
 #[test]
 fn a_server_is_called(rt: HostRuntime) -> Tested {
     let free = "tcp://127.0.0.1:0";

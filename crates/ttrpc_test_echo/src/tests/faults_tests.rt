@@ -13,13 +13,13 @@ use ttrpc_wire::values::slices::front;
 /// One byte a call.
 const BYTEWISE: Manner = Manner { step: 1, ..AT_ONCE };
 
-/// Behind its bytes a reader fails.
+/// A read after the bytes fails.
 const BROKEN: Manner = Manner {
     behind: Some(ErrorKind::ConnectionReset),
     ..AT_ONCE
 };
 
-/// How many bytes answer the frames that are whole with the first `count` bytes of `MIXED`.
+/// Returns the number of bytes that answer the frames that are whole in the first `count` bytes of `MIXED`.
 fn answered_with(count: usize) -> usize {
     if count >= 87 {
         65
@@ -32,23 +32,23 @@ fn answered_with(count: usize) -> usize {
     }
 }
 
-/// Returns whether the failure has this kind. Another one is the error.
-fn is_of_kind(ended: Result<(), Error>, expected: ErrorKind) -> Holds {
+/// Returns whether the reader or the writer failed with this text. Another failure is returned as the error.
+fn is_told_as(ended: Result<(), Error>, expected: &str) -> Holds {
     match ended {
-        Err(Error::Nix(kind)) => Ok(kind == expected),
+        Err(Error::Socket(text)) => Ok(text.as_str() == expected),
         Err(error) => Err(error.into()),
         Ok(()) => Ok(false),
     }
 }
 
-/// Returns whether the requests in `count` bytes are answered, after which the reader fails.
+/// Returns whether the requests in `count` bytes are answered, if the reader fails after them.
 fn reading_fails_at(alloc: Global, count: usize, step: usize) -> Holds {
     let mut output = Vec::with_capacity(alloc, ROOM)?;
     let manner = Manner { step, ..BROKEN };
     let mut input = StdReader::new(front(MIXED, count), manner);
     let ended = answer(alloc, &mut input, &mut output);
     let is_answered = output.as_slice() == front(MIXED_ANSWERS, answered_with(count));
-    Ok(is_of_kind(ended, ErrorKind::ConnectionReset)? && is_answered)
+    Ok(is_told_as(ended, "connection reset")? && is_answered)
 }
 
 #[test]
@@ -60,13 +60,17 @@ fn what_came_before_a_failing_read_is_answered(rt: HostRuntime) -> Tested {
     Ok(())
 }
 
-/// Returns whether `count` bytes went out, after which the writer fails, or takes no more.
+/// Returns whether `count` bytes are written, if the writer fails or takes no more after them.
 fn writing_fails_at(alloc: Global, count: usize, step: usize, behind: Option<ErrorKind>) -> Holds {
     let manner = Manner { step, ..AT_ONCE };
     let mut output = StdWriter::new(alloc, manner.ending(count, behind))?;
     let ended = answer(alloc, &mut StdReader::new(MIXED, AT_ONCE), &mut output);
     let is_written = output.receiver.taken.as_slice() == front(MIXED_ANSWERS, count);
-    Ok(is_of_kind(ended, behind.unwrap_or(ErrorKind::WriteZero))? && is_written)
+    let told = match behind {
+        Some(_) => "broken pipe",
+        None => "write zero",
+    };
+    Ok(is_told_as(ended, told)? && is_written)
 }
 
 #[test]
@@ -80,7 +84,7 @@ fn a_beginning_is_written_where_writing_fails(rt: HostRuntime) -> Tested {
     Ok(())
 }
 
-/// A run with these words that writes there: its status, and what it tells of errors.
+/// Runs the program with these words and this writer. Returns its status, and the errors that it reports.
 fn run_into<S: Tester + 'static>(
     rt: &S,
     words: &[String],
@@ -102,7 +106,7 @@ fn telling_fails_at<S: Tester + 'static>(rt: &S, count: usize) -> Holds {
     let mut output = StdWriter::new(rt.alloc(), manner)?;
     let (status, errors) = run_into(rt, words.as_slice(), &mut output)?;
     let is_written = output.receiver.taken.as_slice() == front(LOOPED, count);
-    let is_told = errors.as_slice().starts_with(b"ttrpc-demo: Nix error: ");
+    let is_told = errors.as_slice().starts_with(b"ttrpc-demo: socket err: ");
     Ok(status == 1 && is_written && is_told)
 }
 
@@ -115,17 +119,17 @@ fn a_failing_writer_ends_a_call(rt: HostRuntime) -> Tested {
     Ok(())
 }
 
-/// Returns whether the run ended with status 1, a whole answer, and a line that tells of a fault of the system.
+/// Returns whether the run ended with status 1, a whole answer, and a line about the socket.
 fn is_broken_behind_an_answer(ran: &Ran) -> bool {
     let errors = ran.errors.as_slice();
     ran.status == 1
         && ran.output.as_slice() == ECHOED
-        && errors.starts_with(b"ttrpc-demo: Nix error: ")
+        && errors.starts_with(b"ttrpc-demo: socket err: ")
         && errors.ends_with(b"\n")
 }
 
 #[test]
-fn a_failing_reader_ends_the_program_with_its_kind(rt: HostRuntime) -> Tested {
+fn a_failing_reader_ends_the_program_with_its_text(rt: HostRuntime) -> Tested {
     let _sockets: Sockets = None;
     let words = words_of(rt.alloc(), &["answer"])?;
     let mut input = StdReader::new(ASKED, BROKEN);
@@ -165,5 +169,20 @@ fn interruptions_lose_nothing(rt: HostRuntime) -> Tested {
     let mut input = StdReader::new(MIXED, in_elevens);
     answer(rt.alloc(), &mut input, &mut output)?;
     assert!(rt; output.receiver.taken.as_slice() == MIXED_ANSWERS);
+    Ok(())
+}
+
+/// Returns whether the first request is answered. The error of refused memory is returned.
+fn is_echoed(alloc: Global) -> Result<bool, Error> {
+    let mut output = Vec::with_capacity(alloc, ROOM)?;
+    let mut input = ASKED;
+    answer(alloc, &mut input, &mut output)?;
+    Ok(output.as_slice() == ECHOED)
+}
+
+/// `tools/refuse-memory --named` refuses each allocation of this test.
+#[test]
+fn refused_memory_is_named_by_answer(rt: HostRuntime) -> Tested {
+    assert!(rt; is_echoed(rt.alloc())?);
     Ok(())
 }

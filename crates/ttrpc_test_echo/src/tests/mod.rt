@@ -6,8 +6,8 @@ mod vectors;
 
 use std::test::Fail;
 
-/// Nothing, or why a test ended.
+/// Nothing, or the reason why a test ended.
 type Tested = Result<(), Fail>;
 
-/// Whether a row holds, or why a test ended.
+/// True if a row holds, or the reason why a test ended.
 type Holds = Result<bool, Fail>;

@@ -8,18 +8,18 @@ use std::test::Fail;
 use ttrpc_echo::{System, run};
 use ttrpc_proto::Error;
 
-/// What a test of runs asks of the system.
+/// The parts of the system that a test of runs uses.
 pub trait Tester: System + Abort {}
 
 impl<R: System + Abort> Tester for R {}
 
-/// The check of borrows covers a run over a host's sockets only where the function that asks for it names their types.
+/// The borrow check covers a run over a host's sockets only if the function that calls it names their types.
 pub type Sockets = Option<(TcpListener, TcpStream)>;
 
-/// More than any of the runs of a table writes, so that no writer wants memory.
+/// More room than any of the runs of a table uses, so that no writer takes more memory.
 pub const ROOM: usize = 256;
 
-/// What a run of the program left.
+/// The results of a run of the program.
 #[derive(Drop)]
 pub struct Ran {
     pub status: u8,
@@ -27,7 +27,7 @@ pub struct Ran {
     pub errors: Vec<u8>,
 }
 
-/// One more word.
+/// Adds a word.
 pub fn add_word(alloc: Global, words: &mut Vec<String>, word: &str) -> Result<(), Fail> {
     let word = String::from_str(alloc, word)?;
     words.push(word)?;
@@ -42,7 +42,8 @@ pub fn words_of(alloc: Global, words: &[&str]) -> Result<Vec<String>, Fail> {
     Ok(given)
 }
 
-/// Runs the program with room for so many bytes of output. A run that ends for want of memory is an error.
+/// Runs the program with room for this number of bytes of output. It is an error if a run ends because memory was
+/// refused.
 pub fn run_words<S: System + 'static, R: Read>(
     rt: &S,
     words: &[String],

@@ -1,4 +1,4 @@
-//! Runs of the program: its words and its input, and then its status, its output and what it tells of errors.
+//! Runs of the program: its words and its input, and then its status, its output and its reports of errors.
 use crate::tests::runs::{ROOM, Ran, Sockets, Tester, run_words, words_of};
 use crate::tests::vectors::*;
 use crate::tests::{Holds, Tested};
@@ -27,14 +27,14 @@ const RUNS: &[Run] = &[
     (&["answer"], MIXED, true, 0, MIXED_ANSWERS, b""),
     // an input that ends inside a frame
     (&["answer"], CUT, true, 1, b"", INSIDE_TEXT),
-    // calls of its own
+    // calls of its own server
     (&["loop", "2A"], ASKED, false, 0, LOOPED, b""),
     (&["loop", "2a"], ASKED, false, 0, LOOPED, b""),
     (&["loop", ""], ASKED, false, 0, LOOPED_EMPTY, b""),
     (&["loop", "00fFAb09"], ASKED, false, 0, LOOPED_FOUR, b""),
 ];
 
-/// Wrong words: nothing is read of the input, and the usage is told.
+/// Wrong words: the input isn't read, and the usage is written.
 const WRONG_WORDS: &[&[&str]] = &[
     &[],
     &["answers"],
@@ -50,12 +50,12 @@ const WRONG_WORDS: &[&[&str]] = &[
     &["serve", "unix://@a", ""],
     &["call", "unix://@a", "x", "y", "2a"],
     &["Call", "unix://@a", "x", "y", "2a", "0"],
-    // a limit of time that is no number of 64 bits with a sign; digits and it are read before the address
+    // a timeout that is no number of 64 bits with a sign; it and the digits are read before the address
     &["call", "unix://@a", "x", "y", "2a", ""],
     &["call", "unix://@a", "x", "y", "2a", "1s"],
     &["call", "unix://@a", "x", "y", "2a", "9223372036854775808"],
     &["call", "unix://@a", "x", "y", "2", "0"],
-    // digits that are no bytes
+    // digits that encode no bytes
     &["loop", "2"],
     &["loop", "2a3"],
     &["loop", "2g"],
@@ -66,7 +66,7 @@ const WRONG_WORDS: &[&[&str]] = &[
     &["loop", "\u{ff12}a"],
 ];
 
-/// Words with an address that names no place, and what is told of it: nothing is read of the input.
+/// Words with an address that names no place, and the error: the input isn't read.
 const NO_PLACES: &[(&[&str], &[u8])] = &[
     (&["serve", "vsock://3:1024"], VSOCK_TEXT),
     (&["serve", "unix://@a"], ABSTRACT_TEXT),
@@ -141,7 +141,7 @@ fn a_frame_that_is_too_long_is_answered_behind_it(rt: HostRuntime) -> Tested {
     Ok(())
 }
 
-/// A call of its own with so many bytes 77.
+/// Runs a call of the program's own server with `count` bytes 77.
 fn sevens<S: System + 'static>(rt: &S, count: usize, room: usize) -> Result<Ran, Fail> {
     let alloc = rt.alloc();
     let digits = vec![in alloc; b'7'; count.saturating_mul(2)]?;

@@ -37,4 +37,4 @@ returns-in_err-pass_on-clause-err g c =
     rw e (inl (stops_inside _ _ _ _ _ _ _ _ _ c.loop.invariant c.in_ok-n.ensures.bytes.0 (c.in_err-pass_on.ensures.err rest.0 rest.2)))
 
 pub returns-clause-err : goal.returns-clause-err
-returns-clause-err g c = inl (stops_between _ _ _ _ _ _ _ c.loop.invariant (keeps_same _) (λ frames. inr (inl tt)))
+returns-clause-err g c = inl (stops_between _ _ _ _ _ _ _ c.loop.invariant (keeps_same _) (λ frames. inr (inl c.broken.ensures)))
