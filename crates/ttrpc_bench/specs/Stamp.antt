@@ -1,4 +1,4 @@
--- What halves with stamps do. Each half is its next stamp.
+-- The behaviour of halves with stamps. Each half is its next stamp.
 -- Source: this project's.
 use Rattle.std.specs.Prelude.{◌≡◌, ◌≢◌, ◌+◌, ◌%◌, ℕ, List, [], ◌∷◌, ◌++◌, codes}
 use Rattle.ttrpc_secure.specs.Halves.{Moves, Refusals}
@@ -7,10 +7,10 @@ use Rattle.ttrpc_secure.specs.Halves.{Moves, Refusals}
 abbrev pub AppendsStamp : Moves ℕ
 AppendsStamp stamp plain aad sealed next = (sealed ≡ plain ++ stamp ∷ []) × (next ≡ (stamp + 1) % 256)
 
--- Opening is that backwards.
+-- Opening reverses sealing.
 abbrev pub TakesStampOff : Moves ℕ
 TakesStampOff stamp sealed aad plain next = AppendsStamp stamp plain aad sealed next
 
--- The data don't end in the stamp, which is the reason that is given.
+-- The data does not end in the stamp, and this reason is given.
 abbrev pub HasWrongStamp : Refusals ℕ
 HasWrongStamp stamp sealed aad why = ((plain : List ℕ) → sealed ≢ plain ++ stamp ∷ []) × (why ≡ codes "bad stamp")

@@ -1,7 +1,7 @@
 //! How a test fails.
 use std::test::Fail;
 
-/// What a test returns.
+/// The result of a test.
 pub type Tested = Result<(), Fail>;
 
 /// Fails if the condition does not hold.
@@ -14,7 +14,7 @@ pub fn check_named(text: &str, holds: bool) -> Tested {
     if holds { Ok(()) } else { Err(Fail::new(text)) }
 }
 
-/// Fails if the condition does not hold, and says at which row. The first row is number 0.
+/// Fails with the row's number if the condition does not hold. The first row is number 0.
 pub fn check_row(number: usize, holds: bool) -> Tested {
     check_named_row("a condition does not hold at row", number, holds)
 }

@@ -1,4 +1,4 @@
-//! Hooks of either side, over any stream, and what others are made of.
+//! Hooks of either side, over any stream, and the functions that other hooks use.
 ghost use Rattle.std.specs.Prelude.{◌≡◌, ◌⊎◌, IfOk};
 ghost use Rattle.std.specs.IoError.{error_kind};
 ghost use Rattle.std.specs.declared.io.Error.{Error as IoError};
@@ -11,16 +11,17 @@ use ttrpc_wire::Text;
 
 type Stamped = Result<HookOutput<StampOut, StampIn>, HookError>;
 
-/// What a hook tells that was refused memory.
+/// Returns the error of a hook that was refused memory.
 pub fn no_memory<E: Drop>(_refused: E) -> HookError
     ensures { (e : IoError) × (result ≡ HookError.Io e) × (error_kind e ≡ ErrorKind.OutOfMemory) }
 {
     HookError::Io(io::Error::from(ErrorKind::OutOfMemory))
 }
 
-/// What a hook tells that refuses a connection for this reason.
+/// Returns the error of a hook that rejects a connection for this reason, or that of refused memory.
 pub fn rejected(alloc: Global, reason: &str) -> HookError
-    ensures { (result ≡ HookError.Rejected reason.now) ⊎ ((e : IoError) × (result ≡ HookError.Io e)) }
+    ensures { (result ≡ HookError.Rejected reason.now)
+        ⊎ ((e : IoError) × (result ≡ HookError.Io e)) }
 {
     match Text::from_str(alloc, reason) {
         Ok(reason) => HookError::Rejected(reason),
@@ -28,7 +29,7 @@ pub fn rejected(alloc: Global, reason: &str) -> HookError
     }
 }
 
-/// The halves, and this known of the connection.
+/// Returns a hook's output: these halves, and this datum of the connection under this name.
 pub fn knowing<O: Drop, I: Drop>(
     alloc: Global,
     name: &str,
@@ -48,7 +49,7 @@ pub fn knowing<O: Drop, I: Drop>(
     Ok(output)
 }
 
-/// Lets no connection pass.
+/// A hook that rejects each connection.
 #[derive(Drop)]
 pub struct Rejects {}
 
@@ -72,7 +73,7 @@ impl<S> ConnectHook<S> for Rejects {
     }
 }
 
-/// Stamps what goes through a connection, and knows it as `name`.
+/// A hook that gives a connection halves that stamp, and the datum `name`.
 #[derive(Drop)]
 pub struct Stamps {
     pub name: &'static str,

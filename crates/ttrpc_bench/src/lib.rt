@@ -1,5 +1,5 @@
-//! Benches nothing by itself: halves with no cipher, hooks, readers and writers, for programs that try out and measure a
-//! connection, and for tests. In `checks` how a test fails.
+//! Parts for programs that try out and measure a connection, and for tests: halves without a cipher, hooks, readers and
+//! writers. `checks` has the failures of tests, and `vectors` has frames that a peer may send.
 #![tactic(auto)]
 
 pub mod checks;
@@ -8,6 +8,7 @@ mod manners;
 mod odd_halves;
 mod readers;
 mod stamp;
+pub mod vectors;
 mod writers;
 
 pub use hooks::{Rejects, Stamps, knowing, no_memory, rejected};

@@ -1,24 +1,25 @@
-//! How readers and writers answer.
+//! How readers and writers move bytes, are interrupted and fail.
 ghost use Rattle.std.specs.Prelude.{◌≡◌, ◌≤◌, IfOk};
 
 use std::cmp::min;
 use std::io::ErrorKind;
 
-/// How bytes are moved: at most `step` a call, and `room` in all. What can move no more fails with an error of the kind
-/// `behind`, or moves nothing, and so does a writer that was flushed `flushes` times.
+/// How bytes are moved: at most `step` bytes a call, and `room` bytes in all. A call that can move no bytes fails with
+/// an error of the kind `behind`, if there is one, and otherwise moves nothing. After `flushes` flushes, each flush
+/// fails with `behind`, if there is one.
 #[derive(Clone, Copy, Debug)]
 pub struct Manner {
     pub step: usize,
     pub room: usize,
     pub flushes: usize,
     pub behind: Option<ErrorKind>,
-    /// Each call that moves bytes is interrupted once before.
+    /// If true, each call that moves bytes is interrupted once first.
     pub interrupts: bool,
-    /// Each flush is.
+    /// If true, each flush is interrupted once first.
     pub interrupts_flushes: bool,
 }
 
-/// As many bytes a call as there are.
+/// Each call moves all bytes that it can.
 pub const AT_ONCE: Manner = Manner {
     step: usize::MAX,
     room: usize::MAX,
@@ -28,11 +29,11 @@ pub const AT_ONCE: Manner = Manner {
     interrupts_flushes: false,
 };
 
-/// What stands for the last call before the first one: neither an end nor a break.
+/// The result of the last call before the first call: neither an end nor a failure.
 pub const NO_CALL: Result<usize, ErrorKind> = Err(ErrorKind::Interrupted);
 
 impl Manner {
-    /// The same for so many bytes in all, with a failure of this kind behind them, or none.
+    /// Returns the same manner with `room` bytes in all, and with this failure after them, or none.
     pub fn ending(self, room: usize, behind: Option<ErrorKind>) -> Manner
         ensures { result ≡ record self { room = room; behind = behind } }
     {
@@ -43,7 +44,7 @@ impl Manner {
         }
     }
 
-    /// How many bytes a call moves that may move `most`, behind so many that were moved before.
+    /// Returns the number of bytes that a call moves, if it may move `most` and `moved` bytes were moved before.
     pub(crate) fn count(&self, moved: usize, most: usize) -> Result<usize, ErrorKind>
         ensures { IfOk result (λ n. n ≤ most) }
     {
@@ -55,7 +56,7 @@ impl Manner {
     }
 }
 
-/// Interrupts a call, unless the call before was interrupted or none is to be.
+/// Interrupts a call if `interrupts` is set and the call before wasn't interrupted.
 pub(crate) fn interrupt(interrupts: bool, interrupted: &mut bool) -> Result<(), ErrorKind> {
     *interrupted = interrupts && !*interrupted;
     if *interrupted {

@@ -1,4 +1,4 @@
-//! Halves that refuse, and that open to more than a message may have.
+//! A half that refuses, and one that opens payloads to more than a message may have.
 ghost use Rattle.std.specs.Prelude.{◌≡◌, ◌≢◌, IfOk, IfErr, OnErr};
 
 use crate::stamp::Transformed;
@@ -7,7 +7,7 @@ use ttrpc_proto::MESSAGE_LENGTH_MAX;
 use ttrpc_secure::{InboundTransform, OutboundTransform, TransformError};
 use ttrpc_wire::Text;
 
-/// A half that opens whatever it is given to one byte more than a message may have.
+/// An inbound half that opens any payload to one byte more than a message may have.
 #[derive(Debug, Drop)]
 pub struct Swelling {}
 
@@ -24,7 +24,7 @@ impl InboundTransform for Swelling {
     }
 }
 
-/// A half that seals nothing, and whose overhead leaves room for this many bytes.
+/// An outbound half that refuses to seal. Its overhead leaves room for `room` bytes.
 #[derive(Debug, Drop)]
 pub struct Sealed {
     pub room: usize,

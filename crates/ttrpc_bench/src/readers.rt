@@ -1,5 +1,5 @@
-//! A reader that moves few bytes a call, that can be interrupted and fail at each place, and that tells what its last call
-//! answered.
+//! A reader that moves few bytes a call, can be interrupted and fail at each place, and keeps the result of its last
+//! call.
 ghost use Rattle.std.specs.Prelude.{◌≡◌, ◌≤◌, length, Some};
 ghost use Rattle.std.specs.Io.{ReadsAtMost};
 ghost use Rattle.ttrpc_proto.specs.Framing.Streams.{answered_kind};
@@ -18,19 +18,19 @@ pub struct Giver<'a> {
     zeros: usize,
     tail: &'a [u8],
     given: usize,
-    /// What the last call answered.
+    /// The result of the last call.
     pub last: Result<usize, ErrorKind>,
 }
 
 impl Giver<'_> {
-    /// One of these bytes.
+    /// Returns a reader of these bytes.
     pub fn new(bytes: &[u8], manner: Manner) -> Giver<'_>
         ensures { result.last ≡ NO_CALL }
     {
         Giver::with_zeros(bytes, 0, b"", manner)
     }
 
-    /// One with so many zeros between a head and a tail.
+    /// Returns a reader of a head, of `zeros` zeros and of a tail.
     pub fn with_zeros<'a>(head: &'a [u8], zeros: usize, tail: &'a [u8], manner: Manner) -> Giver<'a>
         ensures { result.last ≡ NO_CALL }
     {
@@ -45,7 +45,7 @@ impl Giver<'_> {
         }
     }
 
-    /// How many bytes weren't read.
+    /// Returns the number of bytes that weren't read.
     pub fn left(&self) -> usize {
         self.head
             .len()
@@ -64,7 +64,7 @@ impl Giver<'_> {
         Ok(count)
     }
 
-    /// Copies what comes next, and says how many bytes.
+    /// Copies the next bytes, and returns how many.
     fn copy(&mut self, buffer: &mut [u8]) -> usize
         ensures { result ≤ length buffer.new }
     {
@@ -95,14 +95,14 @@ impl Source for Giver<'_> {
     }
 }
 
-/// The same as a reader of std.
+/// The same, as a reader of std.
 #[derive(Drop)]
 pub struct StdReader<'a> {
     pub giver: Giver<'a>,
 }
 
 impl StdReader<'_> {
-    /// One of these bytes.
+    /// Returns a reader of these bytes.
     pub fn new(bytes: &[u8], manner: Manner) -> StdReader<'_>
         ensures { result.giver.last ≡ NO_CALL }
     {

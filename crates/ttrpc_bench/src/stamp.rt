@@ -1,4 +1,4 @@
-//! Halves that count: sealing appends a stamp, the number of frames sealed before, modulo 256.
+//! Halves that count: sealing appends a stamp, which is the number of frames sealed before, modulo 256.
 ghost use Rattle.std.specs.Prelude.{◌≡◌, ◌≢◌, ℕ, codes, IfOk, IfErr, OnErr};
 ghost use Rattle.ttrpc_secure.specs.Halves.{IsPaired};
 ghost use Rattle.ttrpc_bench.specs.Stamp.{TakesStampOff, HasWrongStamp};
@@ -8,10 +8,10 @@ use std::marker::Model;
 use ttrpc_secure::{InboundTransform, OutboundTransform, TransformError};
 use ttrpc_wire::Text;
 
-/// What a half makes of what it is given.
+/// The result of a half's transform.
 pub type Transformed = Result<Vec<u8>, TransformError>;
 
-/// The half that stamps, which contracts see as its next stamp.
+/// The half that appends stamps. Contracts see it as its next stamp.
 #[derive(Debug, Default, Drop)]
 pub struct StampOut {
     count: u8,
@@ -24,7 +24,7 @@ impl Model for StampOut {
 }
 
 impl StampOut {
-    /// A half that has sealed nothing.
+    /// Returns a half that has sealed nothing.
     pub fn new() -> StampOut
         ensures { result ≡ 0 }
     {
@@ -68,7 +68,7 @@ impl OutboundTransform for StampOut {
     } };
 }
 
-/// The half that takes stamps off, which contracts see as the stamp that comes next.
+/// The half that removes stamps. Contracts see it as the stamp that it expects next.
 #[derive(Debug, Default, Drop)]
 pub struct StampIn {
     count: u8,
@@ -81,7 +81,7 @@ impl Model for StampIn {
 }
 
 impl StampIn {
-    /// A half that has opened nothing.
+    /// Returns a half that has opened nothing.
     pub fn new() -> StampIn
         ensures { result ≡ 0 }
     {
@@ -106,7 +106,7 @@ impl InboundTransform for StampIn {
     }
 }
 
-/// A half that has sealed nothing and one that has opened nothing. They are paired.
+/// Returns a half that has sealed nothing, and one that has opened nothing. They are paired.
 pub fn stamps() -> (StampOut, StampIn)
     ensures fresh { (result.0 ≡ 0) × (result.1 ≡ 0) }
     ensures paired { IsPaired ⟦<StampOut as OutboundTransform>⟧.seals

@@ -1,5 +1,5 @@
-//! A writer that moves few bytes a call, that can be interrupted, fail or take no more at each place, and that tells what
-//! its last call answered.
+//! A writer that moves few bytes a call, can be interrupted, fail or take no more at each place, and keeps the result
+//! of its last call.
 ghost use Rattle.std.specs.Prelude.{◌≡◌, [], IfOk, Ok, OnOk, Some};
 ghost use Rattle.std.specs.Io.{WritesAtMost};
 ghost use Rattle.std.specs.Io.KnownBytes.{WriteAppends};
@@ -10,25 +10,25 @@ use std::alloc::{AllocError, Global};
 use std::io::{self, ErrorKind, Write};
 use ttrpc_proto::Sink;
 
-/// How many bytes and offers a writer has memory for from the start.
+/// The number of bytes, and of offers, that a writer has memory for from the start.
 pub const ROOM: usize = 10000;
 
-/// Takes bytes, and keeps how many it was offered at each call.
+/// Takes bytes, and keeps the number of bytes that each call offered.
 #[derive(Drop)]
 pub struct Receiver {
     pub taken: Vec<u8>,
     pub offers: Vec<usize>,
-    /// How often it was flushed, and how many bytes it had taken then.
+    /// The number of flushes, and the number of bytes that it had taken at the last one.
     pub flushes: usize,
     pub flushed: usize,
     manner: Manner,
     interrupted: bool,
-    /// What the last call answered.
+    /// The result of the last call.
     pub last: Result<usize, ErrorKind>,
 }
 
 impl Receiver {
-    /// One that has taken nothing.
+    /// Returns a writer that has taken nothing.
     pub fn new(alloc: Global, manner: Manner) -> Result<Receiver, AllocError>
         ensures { IfOk result (λ r. r.taken.items ≡ []) }
     {
@@ -43,10 +43,11 @@ impl Receiver {
         })
     }
 
-    /// Takes some of the bytes, and says how many.
+    /// Takes some of the bytes, and returns how many.
     pub fn take(&mut self, bytes: &[u8]) -> Result<usize, ErrorKind>
         ensures bound { WritesAtMost result bytes.now }
-        ensures bytes { WriteAppends (Some self.old.taken.items) (Some self.new.taken.items) result bytes.now }
+        ensures bytes { WriteAppends
+            (Some self.old.taken.items) (Some self.new.taken.items) result bytes.now }
     {
         if self.offers.push(bytes.len()).is_err() {
             return Err(ErrorKind::OutOfMemory);
@@ -59,7 +60,7 @@ impl Receiver {
         Ok(count)
     }
 
-    /// Is flushed, and moves nothing.
+    /// Flushes, and moves nothing.
     fn let_go(&mut self) -> Result<usize, ErrorKind>
         ensures moved { OnOk result (result ≡ Ok 0) }
         ensures bytes { self.new.taken ≡ self.old.taken }
@@ -93,14 +94,14 @@ impl Sink for Receiver {
     }
 }
 
-/// The same as a writer of std.
+/// The same, as a writer of std.
 #[derive(Drop)]
 pub struct StdWriter {
     pub receiver: Receiver,
 }
 
 impl StdWriter {
-    /// One that has taken nothing.
+    /// Returns a writer that has taken nothing.
     pub fn new(alloc: Global, manner: Manner) -> Result<StdWriter, AllocError>
         ensures { IfOk result (λ w. w.receiver.taken.items ≡ []) }
     {

@@ -4,7 +4,6 @@ use crate::tests::kinds::{
     ASYNC_RULES, BOTH_RULES, PlainServer, SYNC_RULES, SealedServer, StampedServer, SwellingServer,
 };
 use crate::tests::script::Step::*;
-use crate::tests::script::Told::{self, Others, Socket};
 use crate::tests::script::{Cuts, FRESH, Row, Start};
 use crate::tests::servers::{
     ABOVE_LIMIT_ROWS, ANSWERS_FIRST, BAD_STAMP_FIRST, EOF_ANSWER, GREATEST_IS_SENT, KNOWN_ROWS,
@@ -13,6 +12,7 @@ use crate::tests::servers::{
 use crate::tests::streams::{IN_USE, INACTIVE, NOT_ABOVE};
 use crate::tests::told::{OTHER_RULES, SEALED_UP, UNKNOWN_JOB};
 use crate::tests::under_test::{Table, Tested, hold, hold_stamped};
+use ttrpc_bench::vectors::Told::{self, Others, Socket};
 use ttrpc_server::Rules;
 
 const TIMED_TABLES: &[Table<Rules>] = &[
@@ -46,49 +46,49 @@ const SEALED: &[Table<Rules>] = &[(ASYNC_RULES, SEALED_ROWS)];
 
 const UNSEALED: &[Table<Rules>] = &[(ASYNC_RULES, UNSEALED_ROWS)];
 
-/// Two frames under even ids: a request to `x`, `y`, and one of a type that there is none of.
+/// Two frames with even ids: a request to `x`, `y`, and a frame of an unknown type.
 const EVEN_IDS: &[u8] = b"\0\0\0\x06\0\0\0\x02\x01\0\x0a\x01x\x12\x01y\0\0\0\0\0\0\0\x02\x09\0";
-/// What answers them.
+/// The answers to `EVEN_IDS`.
 const EVEN_IDS_ANSWER: &[u8] = b"\
     \0\0\0\x1b\0\0\0\x02\x02\0\x0a\x19\x08\x03\x12\x15stream id must be odd\
     \0\0\0\x1b\0\0\0\x02\x02\0\x0a\x19\x08\x03\x12\x15stream id must be odd";
-/// Frames of types that there are none of, and a response, all under an odd id.
+/// Frames of unknown types, and a response, all with an odd id.
 const OTHER_TYPES: &[u8] = b"\
     \0\0\0\0\0\0\0\x01\x09\0\
     \0\0\0\x02\0\0\0\x01\x02\0\x0a\0\
     \0\0\0\0\0\0\0\x01\0\0";
-/// Data under an id without a job.
+/// Data with the id of no job.
 const DATA: &[u8] = b"\0\0\0\x01\0\0\0\x03\x03\0z";
-/// What answers them.
+/// The answer to `DATA`.
 const DATA_ANSWER: &[u8] = b"\
     \0\0\0\x20\0\0\0\x03\x02\0\x0a\x1e\x08\x03\x12\x1aStream is no longer active";
-/// A request under stream 1, and data under its id.
+/// A request of stream 1, and data with its id.
 const ASKED_AND_DATA: &[u8] = b"\
     \0\0\0\x14\0\0\0\x01\x01\0\x0a\x09demo.Echo\x12\x04Echo\x1a\x01\x2a\
     \0\0\0\x01\0\0\0\x01\x03\0z";
-/// What answers the data.
+/// The answer to that data.
 const OWN_DATA_ANSWER: &[u8] = b"\
     \0\0\0\x20\0\0\0\x01\x02\0\x0a\x1e\x08\x03\x12\x1aStream is no longer active";
-/// A request under stream 3.
+/// A request of stream 3.
 const ASKED_BEHIND: &[u8] = b"\0\0\0\x14\0\0\0\x03\x01\0\x0a\x09demo.Echo\x12\x04Echo\x1a\x01\x2b";
-/// What echoes it.
+/// The echo of `ASKED_BEHIND`.
 const ECHOED_BEHIND: &[u8] = b"\0\0\0\x05\0\0\0\x03\x02\0\x0a\0\x12\x01\x2b";
-/// An unreadable request under an id that has an active job.
+/// A request, and an unreadable request with the id of that active job.
 const ASKED_AND_UNREADABLE: &[u8] = b"\
     \0\0\0\x14\0\0\0\x01\x01\0\x0a\x09demo.Echo\x12\x04Echo\x1a\x01\x2a\
     \0\0\0\x03\0\0\0\x01\x01\0\x0a\x05a";
-/// A service that isn't there.
+/// A request to an unknown service.
 const OTHER_SERVICE: &[u8] = b"\0\0\0\x06\0\0\0\x01\x01\0\x0a\x01x\x12\x01y";
-/// What answers it.
+/// The answer to `OTHER_SERVICE`.
 const OTHER_SERVICE_ANSWER: &[u8] = b"\
     \0\0\0\x1e\0\0\0\x01\x02\0\x0a\x1c\x08\x03\x12\x18x service does not exist";
 /// A request to `y` of a service that has no methods.
 const EMPTY_SERVICE: &[u8] = b"\0\0\0\x0e\0\0\0\x01\x01\0\x0a\x09demo.None\x12\x01y";
-/// What answers it.
+/// The answer to `EMPTY_SERVICE`.
 const EMPTY_SERVICE_ANSWER: &[u8] = b"\0\0\0\x0e\0\0\0\x01\x02\0\x0a\x0c\x08\x0c\x12\x08y method";
-/// What answers a method that isn't there.
+/// The answer to a request of an unknown method.
 const NOPE: &[u8] = b"\0\0\0\x11\0\0\0\x01\x02\0\x0a\x0f\x08\x0c\x12\x0bNope method";
-/// What answers a handler's error that is a status of code 5 and message `gone`.
+/// The answer after a handler's error that is a status with the code 5 and the message `gone`.
 const STATUS_ANSWER: &[u8] = b"\
     \0\0\0\x18\0\0\0\x01\x02\0\x0a\x16\x08\x02\x12\x12rpc status: 5 gone";
 
@@ -109,33 +109,33 @@ const ANSWERED_ROWS: &[Row] = &[
 
 /// A request of stream 3 to `Echo` with the payload 2a.
 const ASKED_THIRD: &[u8] = b"\0\0\0\x14\0\0\0\x03\x01\0\x0a\x09demo.Echo\x12\x04Echo\x1a\x01\x2a";
-/// What answers it.
+/// The answer to `ASKED_THIRD`.
 const ECHOED_THIRD: &[u8] = b"\0\0\0\x05\0\0\0\x03\x02\0\x0a\0\x12\x01\x2a";
-/// What answers a request of stream 1 after one of stream 3.
+/// The answer to a request of stream 1 after one of stream 3.
 const BELOW_THIRD: &[u8] = b"\
     \0\0\0\x20\0\0\0\x01\x02\0\x0a\x1e\x08\x03\x12\x1astream id 1 is not above 3";
-/// A service that isn't there, under stream 5.
+/// A request of stream 5 to an unknown service.
 const OTHER_SERVICE_FIFTH: &[u8] = b"\0\0\0\x06\0\0\0\x05\x01\0\x0a\x01x\x12\x01y";
-/// What answers it.
+/// The answer to `OTHER_SERVICE_FIFTH`.
 const OTHER_SERVICE_FIFTH_ANSWER: &[u8] = b"\
     \0\0\0\x1e\0\0\0\x05\x02\0\x0a\x1c\x08\x03\x12\x18x service does not exist";
-/// What answers a request of stream 3 after one of stream 5.
+/// The answer to a request of stream 3 after one of stream 5.
 const BELOW_FIFTH: &[u8] = b"\
     \0\0\0\x20\0\0\0\x03\x02\0\x0a\x1e\x08\x03\x12\x1astream id 3 is not above 5";
-/// A request that opens a stream to `Chat` under stream 7.
+/// A request that opens a stream of `Chat` with the id 7.
 const OPENED_SEVENTH: &[u8] = b"\0\0\0\x11\0\0\0\x07\x01\x06\x0a\x09demo.Echo\x12\x04Chat";
-/// What closes it.
+/// The close of stream 7.
 const CLOSED_SEVENTH: &[u8] = b"\0\0\0\0\0\0\0\x07\x03\x05";
 /// A request of stream 7 to `Echo` with the payload 2a.
 const ASKED_SEVENTH: &[u8] = b"\0\0\0\x14\0\0\0\x07\x01\0\x0a\x09demo.Echo\x12\x04Echo\x1a\x01\x2a";
-/// What answers it after another of that stream.
+/// The answer to `ASKED_SEVENTH` after another request of that stream.
 const AT_SEVENTH: &[u8] = b"\
     \0\0\0\x20\0\0\0\x07\x02\0\x0a\x1e\x08\x03\x12\x1astream id 7 is not above 7";
 /// Data of stream 1.
 const DATA_FIRST: &[u8] = b"\0\0\0\x01\0\0\0\x01\x03\0z";
 /// The header of a frame of stream 9 that is one byte too long.
 const OVERSIZED_NINTH: &[u8] = b"\0\x40\0\x01\0\0\0\x09\x01\0";
-/// What answers it.
+/// The answer to `OVERSIZED_NINTH`.
 const LONG_NINTH: &[u8] = b"\
     \0\0\0\x43\0\0\0\x09\x02\0\
     \x0a\x41\x08\x03\x12\x3dmessage length 4194305 exceed maximum message size of 4194304";
@@ -151,7 +151,7 @@ const RISING_ROWS: &[Row] = &[
     Row { name: "data below the newest id find no stream", steps: &[Feed(ASKED_THIRD), Feed(DATA_FIRST), Writes(INACTIVE), Takes(1, 3, b"\x2a")], ..FRESH },
 ];
 
-// The text of the first answer is left open.
+// The text of the first answer isn't specified.
 const UNREAD_ROWS: &[Row] = &[Row {
     name: "an id of a request that can't be read isn't above itself",
     steps: &[
@@ -190,7 +190,7 @@ const GREATEST_ROWS: &[Row] = &[
     Row { name: "answers longer than a message may be are replaced", steps: &[Feed(ASKED), TAKES_FIRST, AnswersSevens(1, 4194298), Writes(LONG_ANSWER)], ..FRESH },
 ];
 
-// Under either rules.
+// These rows hold under either rules.
 #[rattlefmt::skip]
 const DRAINING_ROWS: &[Row] = &[
     Row { name: "a server that drains takes nothing, and gives and answers the jobs that it has", steps: &[Feed(ASKED), Feed(ASKED_BEHIND), TAKES_FIRST, Drains, TakesNothing(ASKED), Jobs(1, 1), ANSWERS_FIRST, Writes(ECHOED), Takes(2, 3, b"\x2b"), Answers(2, b"\x2b"), Writes(ECHOED_BEHIND), TakesNothing(ASKED), TakesNone, IsAlive], ..FRESH },
@@ -229,10 +229,10 @@ const SEALED_ROWS: &[Row] = &[
 
 /// A request of stream 1 with a timeout of ten nanoseconds.
 const TIMED: &[u8] = b"\0\0\0\x16\0\0\0\x01\x01\0\x0a\x09demo.Echo\x12\x04Echo\x1a\x01\x2a\x20\x0a";
-/// The same of stream 9.
+/// The same with the id 9.
 const TIMED_NINTH: &[u8] =
     b"\0\0\0\x16\0\0\0\x09\x01\0\x0a\x09demo.Echo\x12\x04Echo\x1a\x01\x2a\x20\x0a";
-/// What answers the first once it has expired.
+/// The answer to `TIMED` after it has expired.
 const TIMEOUT: &[u8] = b"\0\0\0\x0d\0\0\0\x01\x02\0\x0a\x0b\x08\x04\x12\x07timeout";
 /// A timeout of -1, which is read as 2^64 - 1.
 const NEGATIVE: &[u8] = b"\
@@ -244,12 +244,12 @@ const FOUR_TIMED: &[u8] = b"\
     \0\0\0\x16\0\0\0\x03\x01\0\x0a\x09demo.Echo\x12\x04Echo\x1a\x01\x2b\x20\x0a\
     \0\0\0\x16\0\0\0\x05\x01\0\x0a\x09demo.Echo\x12\x04Echo\x1a\x01\x2c\x20\x14\
     \0\0\0\x16\0\0\0\x07\x01\0\x0a\x09demo.Echo\x12\x04Echo\x1a\x01\x2d\x20\x63";
-/// What answers the first three once they have expired.
+/// The answers to the first three after they have expired.
 const THREE_TIMEOUTS: &[u8] = b"\
     \0\0\0\x0d\0\0\0\x01\x02\0\x0a\x0b\x08\x04\x12\x07timeout\
     \0\0\0\x0d\0\0\0\x03\x02\0\x0a\x0b\x08\x04\x12\x07timeout\
     \0\0\0\x0d\0\0\0\x05\x02\0\x0a\x0b\x08\x04\x12\x07timeout";
-/// What answers the second and the third.
+/// The answers to the second and the third.
 const TWO_TIMEOUTS: &[u8] = b"\
     \0\0\0\x0d\0\0\0\x03\x02\0\x0a\x0b\x08\x04\x12\x07timeout\
     \0\0\0\x0d\0\0\0\x05\x02\0\x0a\x0b\x08\x04\x12\x07timeout";
@@ -302,7 +302,7 @@ const UNSEALED_ROWS: &[Row] = &[Row {
     ..FRESH
 }];
 
-// ---- what holds over halves that stamp, too
+// ---- tables that hold over halves that stamp, too
 
 #[test]
 fn a_server_that_drains_takes_nothing(rt: HostRuntime) -> Tested {
@@ -349,7 +349,7 @@ fn stamped_jobs_expire(rt: HostRuntime) -> Tested {
     hold_stamped::<StampedServer>(&rt, rt.alloc(), TIMED_TABLES)
 }
 
-// ---- what holds over one kind of halves
+// ---- tables that hold over one kind of halves
 
 #[test]
 fn a_polled_server_answers_by_open_text_and_at_length(rt: HostRuntime) -> Tested {

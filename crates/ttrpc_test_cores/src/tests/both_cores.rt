@@ -1,4 +1,4 @@
-//! A client's core and a server's, between which bytes are carried by hand.
+//! The cores of a client and of a server. A test carries the bytes between them.
 use crate::tests::script::{Start, Step};
 use crate::tests::steps::act;
 use crate::tests::under_test::{Core, End, Met, Tested};
@@ -6,34 +6,34 @@ use std::alloc::Global;
 use std::process::Abort;
 use ttrpc_wire::values::slices::front;
 
-/// A script of both, run on new cores for each size of the pieces in which bytes are carried.
+/// A script of both cores. It runs on new cores for each size of the pieces that bytes are carried in.
 #[derive(Clone, Copy)]
 pub struct Story {
-    /// What it shows.
+    /// The behaviour that it shows.
     pub name: &'static str,
     pub deeds: &'static [Deed],
 }
 
-/// What happens between both.
+/// A step of a story.
 #[derive(Clone, Copy)]
 pub enum Deed {
     /// A step of the client.
     Client(Step),
     /// A step of the server.
     Server(Step),
-    /// All that the client has to write goes to the server.
+    /// All bytes that the client has to write go to the server.
     CarriesUp,
-    /// All that the server has to write goes to the client.
+    /// All bytes that the server has to write go to the client.
     CarriesDown,
 }
 
-/// In what sizes bytes are carried: one at a time, and as many as fit.
+/// The sizes of the pieces that bytes are carried in: one byte, and as many as fit.
 const SIZES: [usize; 2] = [1, 64];
 
-/// How often they are carried at most: more than a story has.
+/// The number of pieces that are carried at most: more than a story has.
 const TURNS: usize = 1000;
 
-/// Each story holds of a client of each of these kinds, and of a server of these rules.
+/// Checks that each story holds for a client of each of these kinds, and a server with these rules.
 pub fn hold_between<C: Core, S: Core>(
     rt: &impl Abort,
     alloc: Global,
@@ -51,7 +51,7 @@ pub fn hold_between<C: Core, S: Core>(
     Ok(())
 }
 
-/// The story holds of new cores.
+/// Checks that the story holds for new cores.
 fn holds_between<C: Core, S: Core>(
     rt: &impl Abort,
     alloc: Global,
@@ -65,7 +65,7 @@ fn holds_between<C: Core, S: Core>(
     run(rt, alloc, &mut client, &mut server, story, size)
 }
 
-/// Each deed of the story is met.
+/// Checks that each deed of the story is met.
 fn run<C: Core, S: Core>(
     rt: &impl Abort,
     alloc: Global,
@@ -96,7 +96,8 @@ fn is_met<C: Core, S: Core>(
     }
 }
 
-/// All that one core has to write goes to the other, in pieces of this size, at most 64.
+/// Carries all bytes that one core has to write to the other, in pieces of this size, at most 64. Returns whether that
+/// worked.
 fn carried<A: End, B: End>(alloc: Global, from: &mut A, to: &mut B, size: usize) -> Met {
     let mut buffer = [0; 64];
     for _ in 0..TURNS {

@@ -1,9 +1,9 @@
-//! Streams between both cores, stepped by hand: one byte at a time, and whole.
+//! Streams between both cores, with bytes that are carried one at a time, and as many as fit.
 use crate::tests::both_cores::{Deed, Story, hold_between};
 use crate::tests::kinds::{BOTH_KINDS, PlainClient, PlainServer, StampedClient, StampedServer};
 use crate::tests::script::Step::*;
-use crate::tests::script::Told::{Eof, RemoteClosed, Status};
 use crate::tests::under_test::Tested;
+use ttrpc_bench::vectors::Told::{Eof, RemoteClosed, Status};
 use ttrpc_server::Rules;
 
 #[rattlefmt::skip]

@@ -1,15 +1,16 @@
-//! Many calls of a client at once.
+//! Many calls of a client at the same time.
 use crate::tests::client::ASKED;
 use crate::tests::client_steps::{ends, gives, usual_request};
-use crate::tests::script::Told;
 use crate::tests::steps::leaves;
 use crate::tests::under_test::{Client, End, Met};
 use std::alloc::Global;
+use ttrpc_bench::vectors::Told;
 use ttrpc_proto::Request;
 use ttrpc_wire::values::slices::{behind, front};
 
-/// So many calls are made and written before the first is answered. The last is answered first, with its own id's lowest
-/// byte, which is told in that order, and each has its own outcome.
+/// Returns whether `count` calls work that are all made and written before the first answer. The last call is answered
+/// first, with the lowest byte of its id as the payload. The ended calls are reported in that order, and each has its
+/// own outcome.
 pub fn calls_last_first<C: Client>(alloc: Global, core: &mut C, count: u32) -> Met {
     let request = usual_request(alloc, 10)?;
     Ok(
@@ -21,8 +22,9 @@ pub fn calls_last_first<C: Client>(alloc: Global, core: &mut C, count: u32) -> M
     )
 }
 
-/// So many calls without a deadline are made and written, and every second one is dropped. Answers to all come, the last first:
-/// each call that is left is told of in that order and has its own outcome, and the other answers change nothing.
+/// Returns whether `count` calls without a deadline work if every second one is dropped. Answers to all of them come,
+/// the last first. The calls that are left are reported in that order, and each has its own outcome. The other answers
+/// change nothing.
 pub fn calls_half_dropped<C: Client>(alloc: Global, core: &mut C, count: u32) -> Met {
     let request = usual_request(alloc, 0)?;
     let message = front(behind(ASKED, 10), 22);
@@ -38,8 +40,8 @@ pub fn calls_half_dropped<C: Client>(alloc: Global, core: &mut C, count: u32) ->
     )
 }
 
-/// So many calls are made, each due a nanosecond behind the one before, and all expire by the tick at which the last is
-/// due: each is told of and has its outcome, and no request leaves.
+/// Returns whether `count` calls expire at the tick at which the last is due, if each is due a nanosecond after the one
+/// before. Each is reported and has its outcome, and no request leaves.
 pub fn calls_expire_at_once<C: Client>(alloc: Global, core: &mut C, count: u32) -> Met {
     let request = usual_request(alloc, 10)?;
     if !calls(alloc, core, &request, count)? {
@@ -49,12 +51,12 @@ pub fn calls_expire_at_once<C: Client>(alloc: Global, core: &mut C, count: u32) 
     Ok(leaves(core, b"") && tells_all(core, count) && expires_each(alloc, core, count)?)
 }
 
-/// The id of this call or stream, of those from 0 on.
+/// Returns the id of the call or the stream with this number, from 0.
 pub fn id_of(number: u32) -> u32 {
     number.wrapping_mul(2).wrapping_add(1)
 }
 
-/// Each is made a nanosecond behind the one before.
+/// Makes the calls, each a nanosecond after the one before. Returns whether their ids are right.
 fn calls<C: Client>(alloc: Global, core: &mut C, request: &Request, count: u32) -> Met {
     for number in 0..count {
         if core.request(alloc, request, u64::from(number))? != id_of(number) {
@@ -64,7 +66,7 @@ fn calls<C: Client>(alloc: Global, core: &mut C, request: &Request, count: u32) 
     Ok(true)
 }
 
-/// A request with these flags and this message, of so many bytes, leaves under each id.
+/// Returns whether a request with these flags, this length and this message leaves with each id.
 pub fn requests_leave<C: End>(
     core: &mut C,
     count: u32,
@@ -104,14 +106,14 @@ fn gives_each<C: Client>(alloc: Global, core: &mut C, count: u32) -> Met {
     for number in 0..count {
         let id = id_of(number);
         let [_, _, _, d] = id.to_be_bytes();
-        if !gives(alloc, core, id, true, d)? {
+        if !gives(alloc, core, id, true, &[d])? {
             return Ok(false);
         }
     }
     Ok(true)
 }
 
-/// Whether the call, of those from 0 on, is one of every second that is dropped.
+/// Returns whether the call with this number, from 0, is dropped: every second one is.
 fn is_dropped(number: u32) -> bool {
     number % 2 == 1
 }
@@ -124,7 +126,7 @@ fn drops_half<C: Client>(core: &mut C, count: u32) {
     }
 }
 
-/// Those that are left are told of, the last first, and no others.
+/// Returns whether the calls that are left are reported, the last first, and no others.
 fn tells_half<C: Client>(core: &mut C, count: u32) -> bool {
     for number in (0..count).rev() {
         if !is_dropped(number) && core.next_ended() != Some(id_of(number)) {
@@ -134,7 +136,7 @@ fn tells_half<C: Client>(core: &mut C, count: u32) -> bool {
     core.next_ended().is_none()
 }
 
-/// Those that are left have their own outcomes, and no others have one.
+/// Returns whether the calls that are left have their own outcomes, and no others have one.
 fn gives_half<C: Client>(alloc: Global, core: &mut C, count: u32) -> Met {
     for number in 0..count {
         let id = id_of(number);
@@ -142,7 +144,7 @@ fn gives_half<C: Client>(alloc: Global, core: &mut C, count: u32) -> Met {
         let is_met = if is_dropped(number) {
             core.take_outcome(alloc, id).is_none()
         } else {
-            gives(alloc, core, id, true, d)?
+            gives(alloc, core, id, true, &[d])?
         };
         if !is_met {
             return Ok(false);

@@ -1,18 +1,19 @@
 //! The steps of a client.
 use crate::tests::client::{ANSWERED, CLOSE};
 use crate::tests::client_numbers::{calls_expire_at_once, calls_half_dropped, calls_last_first};
-use crate::tests::script::{Step, Told};
+use crate::tests::script::Step;
 use crate::tests::steps::{feeds, lends, tells};
 use crate::tests::stream_steps::stream_step;
 use crate::tests::under_test::{Client, Met, Streaming};
 use std::alloc::Global;
 use std::test::Fail;
+use ttrpc_bench::vectors::Told;
 use ttrpc_client::CallId;
 use ttrpc_proto::{Error, Request, Response};
 use ttrpc_wire::codec::message::WireMessage;
 use ttrpc_wire::{Blob, Text};
 
-/// A step that only a client knows.
+/// Does a step that only a client has. Returns whether it is met.
 pub fn client_step<C: Streaming>(alloc: Global, core: &mut C, step: &Step) -> Met {
     match *step {
         Step::Calls(timeout, now, id) => calls(alloc, core, timeout, now, id),
@@ -43,7 +44,7 @@ pub fn client_step<C: Streaming>(alloc: Global, core: &mut C, step: &Step) -> Me
     }
 }
 
-/// How a client refuses a call: none where it doesn't.
+/// Returns the error with which a client refuses a call, or `None` if it doesn't.
 pub fn client_refusal<C: Client>(alloc: Global, core: &mut C) -> Result<Option<Error>, Fail> {
     let request = usual_request(alloc, 10)?;
     Ok(core.request(alloc, &request, 0).err())
@@ -51,7 +52,7 @@ pub fn client_refusal<C: Client>(alloc: Global, core: &mut C) -> Result<Option<E
 
 // ---- requests
 
-/// A request to `Echo` of `demo.Echo` with the payload 01 02 03.
+/// Returns a request to `Echo` of `demo.Echo` with the payload 01 02 03.
 pub fn usual_request(alloc: Global, timeout_nano: i64) -> Result<Request, Fail> {
     let mut request = Request::new(alloc);
     address(alloc, &mut request, "demo.Echo", "Echo")?;
@@ -60,7 +61,7 @@ pub fn usual_request(alloc: Global, timeout_nano: i64) -> Result<Request, Fail> 
     Ok(request)
 }
 
-/// A request to `Chat` of `demo.Echo` with this payload.
+/// Returns a request to `Chat` of `demo.Echo` with this payload.
 pub fn stream_request(alloc: Global, payload: &[u8]) -> Result<Request, Fail> {
     let mut request = Request::new(alloc);
     address(alloc, &mut request, "demo.Echo", "Chat")?;
@@ -68,7 +69,7 @@ pub fn stream_request(alloc: Global, payload: &[u8]) -> Result<Request, Fail> {
     Ok(request)
 }
 
-/// A request to `m` of `s` with so many bytes of payload.
+/// Returns a request to `m` of `s` with a payload of `length` bytes.
 pub fn request_of_sevens(alloc: Global, length: usize) -> Result<Request, Fail> {
     let mut request = Request::new(alloc);
     address(alloc, &mut request, "s", "m")?;
@@ -76,14 +77,14 @@ pub fn request_of_sevens(alloc: Global, length: usize) -> Result<Request, Fail> 
     Ok(request)
 }
 
-/// The request goes to this method.
+/// Sets the service and the method of the request.
 fn address(alloc: Global, request: &mut Request, service: &str, method: &str) -> Result<(), Fail> {
     request.service = Text::from_str(alloc, service)?;
     request.method = Text::from_str(alloc, method)?;
     Ok(())
 }
 
-/// The request has this payload.
+/// Sets the payload of the request.
 fn pay(request: &mut Request, payload: Blob) {
     request.payload = payload;
 }
@@ -98,7 +99,7 @@ fn calls_sevens<C: Client>(alloc: Global, core: &mut C, length: usize, id: CallI
     Ok(core.request(alloc, &request, 0)? == id)
 }
 
-/// The request is refused so, and so again.
+/// Returns whether the request is refused with this error, twice.
 fn refuses<C: Client>(alloc: Global, core: &mut C, request: &Request, why: Told) -> Met {
     Ok(
         tells(core.request(alloc, request, 0).err(), why)?
@@ -111,7 +112,7 @@ fn refuses_call<C: Client>(alloc: Global, core: &mut C, why: Told) -> Met {
     refuses(alloc, core, &request, why)
 }
 
-/// The refusal of the first call uses no id and queues nothing.
+/// Returns whether the first call is refused, uses no id and queues nothing.
 fn refuses_first_call<C: Client>(alloc: Global, core: &mut C, why: Told) -> Met {
     Ok(
         refuses_call(alloc, core, why)?
@@ -128,21 +129,21 @@ fn refuses_sevens<C: Client>(alloc: Global, core: &mut C, length: usize, why: To
 
 // ---- outcomes
 
-fn is_answer(response: &Response, has_status: bool, payload: u8) -> bool {
+fn is_answer(response: &Response, has_status: bool, payload: &[u8]) -> bool {
     let is_ok = match &response.status {
         Some(status) => has_status && status.code == 0,
         None => !has_status,
     };
-    is_ok && response.payload.as_slice() == [payload].as_slice()
+    is_ok && response.payload.as_slice() == payload
 }
 
-/// The outcome of the call is this response. Where memory was refused, the test ends with that error.
+/// Returns whether the outcome of the call is this response. If memory was refused, returns that as the test's error.
 pub fn gives<C: Client>(
     alloc: Global,
     core: &mut C,
     id: CallId,
     has_status: bool,
-    payload: u8,
+    payload: &[u8],
 ) -> Met {
     match core.take_outcome(alloc, id) {
         None => Ok(false),
@@ -151,7 +152,7 @@ pub fn gives<C: Client>(
     }
 }
 
-/// The outcome of the call is this error.
+/// Returns whether the outcome of the call is this error.
 pub fn ends<C: Client>(alloc: Global, core: &mut C, id: CallId, why: Told) -> Met {
     match core.take_outcome(alloc, id) {
         None | Some(Ok(_)) => Ok(false),
@@ -159,7 +160,7 @@ pub fn ends<C: Client>(alloc: Global, core: &mut C, id: CallId, why: Told) -> Me
     }
 }
 
-/// The first call has no outcome any more, and no frame finds it again.
+/// Returns whether the first call has no outcome any more, and no frame finds it again.
 fn is_gone<C: Client>(alloc: Global, core: &mut C) -> Met {
     Ok(
         core.take_outcome(alloc, 1).is_none()

@@ -152,7 +152,7 @@ impl<O: OutboundTransform + Half + Drop, I: InboundTransform + Half + Drop> Core
     fn start(alloc: Global, rules: Rules, start: Start) -> Result<Self, Fail> {
         let mut registry = registry(alloc)?;
         registry.set_bare_openings(matches!(start, Start::BareOpenings));
-        Ok(ServerCore::new(alloc, rules, registry, context(alloc, start)))
+        Ok(ServerCore::new(alloc, rules, registry, context(alloc, start))?)
     }
 
     fn refusal(&mut self, alloc: Global) -> Result<Option<Error>, Fail> {
@@ -276,10 +276,10 @@ impl<O: OutboundTransform + Half + Drop, I: InboundTransform + Half + Drop> Core
     fn start(alloc: Global, kind: ClientKind, start: Start) -> Result<Self, Fail> {
         let context = context(alloc, start);
         Ok(match start {
-            Start::AtLastId => ClientCore::starting_at(alloc, kind, context, LAST_ID),
-            Start::Fresh | Start::BareOpenings | Start::Room(_) => ClientCore::new(
-                alloc, kind, context,
-            ),
+            Start::AtLastId => ClientCore::starting_at(alloc, kind, context, LAST_ID)?,
+            Start::Fresh | Start::BareOpenings | Start::Room(_) => {
+                ClientCore::new(alloc, kind, context)?
+            }
         })
     }
 
@@ -300,7 +300,7 @@ impl<O: OutboundTransform + Half + Drop, I: InboundTransform + Half + Drop> Core
     }
 }
 
-/// A context of halves that begin so.
+/// Returns a context with halves that start like this.
 fn context<O: OutboundTransform + Half, I: InboundTransform + Half>(
     alloc: Global,
     start: Start,

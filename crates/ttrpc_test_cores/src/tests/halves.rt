@@ -44,13 +44,13 @@ impl Half for Sealed {
     }
 }
 
-/// How long the request is that opens the stream `Chat` of `demo.Echo`.
+/// The length of the request that opens the stream `Chat` of `demo.Echo`.
 const OPENING: usize = 17;
 
-/// What is left of the greatest payload.
+/// The overhead that leaves room for that length alone.
 const OVERHEAD: usize = 4194304 - OPENING;
 
-/// A half that leaves what is as long as that request as it is, refuses all else, and has no room for more.
+/// A half that leaves data of that length as they are, refuses all others, and has no room for more.
 #[derive(Debug, Drop)]
 pub struct OpensOnly {}
 

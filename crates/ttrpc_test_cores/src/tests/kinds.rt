@@ -1,4 +1,4 @@
-//! The cores that rows are run on, and in which kinds.
+//! The cores that rows are run on, and their kinds.
 use ttrpc_bench::{Sealed, StampIn, StampOut, Swelling};
 use ttrpc_client::{ClientCore, ClientKind};
 use ttrpc_secure::Plain;

@@ -1,4 +1,4 @@
-//! What is known of a connection, as both cores lend it.
+//! The data of a connection, as both cores lend it.
 use crate::server::registry;
 use crate::tests::under_test::{End, Tested};
 use std::alloc::Global;
@@ -10,7 +10,7 @@ use ttrpc_secure::{
 };
 use ttrpc_server::{Rules, ServerCore};
 
-/// The context of a connection of which one number is known.
+/// Returns the context of a connection with one number as its data.
 fn context(alloc: Global) -> Result<ConnectionContext<Plain, Plain>, Fail> {
     let mut context = plain_context(alloc);
     knows_seven(alloc, &mut context.connection_data)?;
@@ -30,7 +30,7 @@ fn is_seven(data: &ConnectionData) -> bool {
     }
 }
 
-/// A core that lends what is known of its connection.
+/// A core that lends the data of its connection.
 trait Knows: End {
     fn known(&self) -> &ConnectionData;
 }
@@ -47,7 +47,7 @@ impl Knows for ServerCore<Plain, Plain> {
     }
 }
 
-/// The core lends that number, also once bytes have come.
+/// Checks that the core lends that number, even after bytes have come.
 fn lends_seven<C: Knows + Drop>(rt: &impl Abort, alloc: Global, core: C) -> Tested {
     let mut core = core;
     core.feed(alloc, &[0])?;
@@ -62,7 +62,7 @@ fn what_a_client_knows_is_lent(rt: HostRuntime) -> Tested {
     lends_seven(
         &rt,
         alloc,
-        ClientCore::new(alloc, ClientKind::Sync, context),
+        ClientCore::new(alloc, ClientKind::Sync, context)?,
     )
 }
 
@@ -74,6 +74,6 @@ fn what_a_server_knows_is_lent(rt: HostRuntime) -> Tested {
     lends_seven(
         &rt,
         alloc,
-        ServerCore::new(alloc, Rules::Sync, registry, context),
+        ServerCore::new(alloc, Rules::Sync, registry, context)?,
     )
 }

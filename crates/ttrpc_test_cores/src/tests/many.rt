@@ -1,4 +1,4 @@
-//! How many calls, jobs, streams and items there are where there are many at once.
+//! The number of calls, jobs, streams and items in the tests with many of them.
 
-/// `tools/measure-cores` puts other numbers in its place.
+/// `tools/measure-cores` replaces this number.
 pub const MANY: u32 = 1000;

@@ -1,4 +1,4 @@
-//! Many calls of a client, many streams, and many items of a stream, at once.
+//! Many calls of a client, many streams, and many items of a stream, at the same time.
 use crate::tests::client::{CLOSE, DATA, FOREIGN};
 use crate::tests::clients::{OPENS_FIRST, OPENS_SECOND};
 use crate::tests::kinds::{ASYNC_KIND, BOTH_KINDS, PlainClient};
@@ -6,8 +6,9 @@ use crate::tests::many::MANY;
 use crate::tests::script::Step::*;
 use crate::tests::script::{FRESH, Row};
 use crate::tests::streams::{OPENED, THREE_OF_THIRD};
-use crate::tests::told::{PAST, UNKNOWN};
+use crate::tests::told::UNKNOWN;
 use crate::tests::under_test::{Table, Tested, hold};
+use ttrpc_bench::vectors::PAST;
 use ttrpc_client::ClientKind;
 
 const ANSWERED: &[Table<ClientKind>] = &[(

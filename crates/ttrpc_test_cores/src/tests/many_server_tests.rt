@@ -1,13 +1,13 @@
-//! Many jobs of a server, many streams, and many items of a stream, at once.
+//! Many jobs of a server, many streams, and many items of a stream, at the same time.
 use crate::tests::client::{CLOSE, DATA};
 use crate::tests::kinds::{ASYNC_RULES, BOTH_RULES, PlainServer};
 use crate::tests::many::MANY;
 use crate::tests::script::Step::*;
-use crate::tests::script::Told::{Eof, RemoteClosed};
 use crate::tests::script::{Cuts, FRESH, Row};
 use crate::tests::streams::{IN_USE, INACTIVE, OPENED, OPENED_THIRD, THREE_OF_THIRD, TWO_ITEMS};
-use crate::tests::told::PAST;
 use crate::tests::under_test::{Table, Tested, hold};
+use ttrpc_bench::vectors::PAST;
+use ttrpc_bench::vectors::Told::{Eof, RemoteClosed};
 use ttrpc_server::Rules;
 
 const ANSWERED: &[Table<Rules>] = &[(

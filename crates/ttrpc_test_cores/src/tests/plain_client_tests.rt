@@ -1,13 +1,14 @@
-//! Each row of the client's table for unary calls, each refusal, and what becomes of calls that expire or are dropped,
-//! over plain halves, and what frames give over halves that stamp, too. All bytes are written by hand.
+//! Unary calls of a client, beyond the vectors of its table. Over plain halves: each refusal, and calls that expire or
+//! are dropped. Over halves that stamp, too: the results of frames. All bytes are written by hand.
 use crate::tests::client::*;
 use crate::tests::clients::{CALLS_FIRST, CALLS_FIRST_IN_TIME, CALLS_SECOND, CALLS_SECOND_IN_TIME};
 use crate::tests::kinds::{ASYNC_KIND, BOTH_KINDS, PlainClient, SYNC_KIND, StampedClient};
 use crate::tests::script::Step::*;
-use crate::tests::script::Told::{self, Begins, Others, Socket, Status};
 use crate::tests::script::{Cuts, FRESH, Row, Start};
-use crate::tests::told::{DISCONNECTED, LONG, LONG_TEXT, USED_UP};
+use crate::tests::told::USED_UP;
 use crate::tests::under_test::{Table, Tested, hold, hold_stamped};
+use ttrpc_bench::vectors::Told::{self, Others, Socket, Status};
+use ttrpc_bench::vectors::{DISCONNECTED, LONG, LONG_TEXT};
 use ttrpc_client::ClientKind;
 
 const REQUESTS: &[Table<ClientKind>] = &[
@@ -36,25 +37,23 @@ const ENDS: &[Table<ClientKind>] = &[
 
 const OVERLONG: &[Table<ClientKind>] = &[(ASYNC_KIND, LONG_ROWS)];
 
-/// The usual request as the second one.
+/// The usual request with the id of the second call.
 const ASKED_NEXT: &[u8] = b"\
     \0\0\0\x18\0\0\0\x03\x01\0\x0a\x09demo.Echo\x12\x04Echo\x1a\x03\x01\x02\x03\x20\x0a";
-/// The first and the second, one behind the other.
+/// The first request and the second, one after the other.
 const ASKED_BOTH: &[u8] = b"\
     \0\0\0\x18\0\0\0\x01\x01\0\x0a\x09demo.Echo\x12\x04Echo\x1a\x03\x01\x02\x03\x20\x0a\
     \0\0\0\x18\0\0\0\x03\x01\0\x0a\x09demo.Echo\x12\x04Echo\x1a\x03\x01\x02\x03\x20\x0a";
-/// The usual request under the last id.
+/// The usual request with the last id.
 const ASKED_LAST: &[u8] = b"\
     \0\0\0\x18\xff\xff\xff\xff\x01\0\x0a\x09demo.Echo\x12\x04Echo\x1a\x03\x01\x02\x03\x20\x0a";
 /// A response to the second call, with an empty status and the payload 2b.
 const ANSWERED_NEXT: &[u8] = b"\0\0\0\x05\0\0\0\x03\x02\0\x0a\0\x12\x01\x2b";
 /// A response with no status.
 const ANSWERED_BARE: &[u8] = b"\0\0\0\x03\0\0\0\x01\x02\0\x12\x01\x2a";
-/// A response with a status of code -1.
+/// A response with a status with the code -1.
 const REFUSED_BELOW_ZERO: &[u8] = b"\
     \0\0\0\x0d\0\0\0\x01\x02\0\x0a\x0b\x08\xff\xff\xff\xff\xff\xff\xff\xff\xff\x01";
-/// A frame of a type that there is none of.
-const OTHER_TYPE: &[u8] = b"\0\0\0\x02\0\0\0\x01\x09\x02ab";
 
 const ELAPSED: Told = Others("Request deadline elapsed");
 
@@ -63,19 +62,11 @@ const ELAPSED_DURING_WRITE: &str =
 
 const CANCELLED_DURING_WRITE: &str = "connection closed after a request was cancelled during write";
 
-const MALFORMED: Told = Others("Receiver got malformed packet: type 3, flags 0, stream 1");
-
-const MALFORMED_CLOSE: Told = Others("Receiver got malformed packet: type 3, flags 5, stream 1");
-
-const MALFORMED_REQUEST: Told = Others("Receiver got malformed packet: type 1, flags 0, stream 1");
-
-const MALFORMED_OTHER: Told = Others("Receiver got malformed packet: type 9, flags 2, stream 1");
-
 #[rattlefmt::skip]
 const REQUEST_ROWS: &[Row] = &[
     Row { name: "a request leaves as its frame", steps: &[CALLS_FIRST_IN_TIME, Waits(1), Lent(0), Lends(0, ASKED, 0, 0), Lends(8, ASKED, 0, 8), Lent(8), Reports, WritesBehind(ASKED, 8), Writes(b"")], ..FRESH },
     Row { name: "ids end at the last", start: Start::AtLastId, steps: &[Calls(10, 0, 4294967295), RefusesCall(USED_UP), DropsCall(1), RefusesCall(USED_UP), IsAlive, Waits(4294967295), Writes(ASKED_LAST)], ..FRESH },
-    Row { name: "ids that no call has change nothing", steps: &[CALLS_FIRST_IN_TIME, Waits(0), Waits(2), Waits(3), Waits(4294967295), DropsCall(0), DropsCall(2), DropsCall(3), DropsCall(4294967295), IsAlive, NextDeadline(Some(10)), NextEnded(None), Writes(ASKED), Feed(ANSWERED), Gives(1, true, 0x2a), Waits(1), DropsCall(1), IsAlive, CALLS_SECOND_IN_TIME, Writes(ASKED_NEXT)], ..FRESH },
+    Row { name: "ids that no call has change nothing", steps: &[CALLS_FIRST_IN_TIME, Waits(0), Waits(2), Waits(3), Waits(4294967295), DropsCall(0), DropsCall(2), DropsCall(3), DropsCall(4294967295), IsAlive, NextDeadline(Some(10)), NextEnded(None), Writes(ASKED), Feed(ANSWERED), Gives(1, true, b"\x2a"), Waits(1), DropsCall(1), IsAlive, CALLS_SECOND_IN_TIME, Writes(ASKED_NEXT)], ..FRESH },
 ];
 
 #[rattlefmt::skip]
@@ -92,30 +83,21 @@ const ORDER_ROWS: &[Row] = &[
 
 #[rattlefmt::skip]
 const FRAME_ROWS: &[Row] = &[
-    Row { name: "a response with an OK status is the answer", steps: &[CALLS_FIRST, Feed(ANSWERED), Gives(1, true, 0x2a), IsGone], ..FRESH },
-    Row { name: "flags of a response mean nothing", steps: &[CALLS_FIRST, Feed(ANSWERED_FLAGGED), Gives(1, true, 0x2a), IsGone], ..FRESH },
-    Row { name: "a response with no status is the answer", steps: &[CALLS_FIRST, Feed(ANSWERED_BARE), Gives(1, false, 0x2a), IsGone], ..FRESH },
-    Row { name: "another code than OK is a refusal", steps: &[CALLS_FIRST, Feed(REFUSED), Ends(1, Status(3, "x")), IsGone], ..FRESH },
+    Row { name: "flags of a response mean nothing", steps: &[CALLS_FIRST, Feed(ANSWERED_FLAGGED), Gives(1, true, b"\x2a"), IsGone], ..FRESH },
+    Row { name: "a response with no status is the answer", steps: &[CALLS_FIRST, Feed(ANSWERED_BARE), Gives(1, false, b"\x2a"), IsGone], ..FRESH },
     Row { name: "a code below zero is a refusal", steps: &[CALLS_FIRST, Feed(REFUSED_BELOW_ZERO), Ends(1, Status(-1, "")), IsGone], ..FRESH },
-    Row { name: "data under a call are malformed", steps: &[CALLS_FIRST, Feed(DATA), Ends(1, MALFORMED), IsGone], ..FRESH },
-    Row { name: "a close under a call is malformed", steps: &[CALLS_FIRST, Feed(CLOSE), Ends(1, MALFORMED_CLOSE), IsGone], ..FRESH },
-    Row { name: "a close with data is malformed", steps: &[CALLS_FIRST, Feed(CLOSE_WITH_DATA), Ends(1, MALFORMED_CLOSE), IsGone], ..FRESH },
-    Row { name: "a request under a call is malformed", steps: &[CALLS_FIRST, Feed(REQUEST), Ends(1, MALFORMED_REQUEST), IsGone], ..FRESH },
-    Row { name: "a frame of another type is malformed", steps: &[CALLS_FIRST, Feed(OTHER_TYPE), Ends(1, MALFORMED_OTHER), IsGone], ..FRESH },
     Row { name: "frames that find no call do nothing", steps: &[CALLS_FIRST, Feed(FOREIGN), Waits(0), Waits(1), Waits(2), Waits(3), Waits(5), Waits(4294967295), IsAlive, DropsCall(1), DropsCall(7), IsGone, CALLS_SECOND], ..FRESH },
 ];
 
 #[rattlefmt::skip]
 const SYNC_FRAME_ROWS: &[Row] = &[
-    // How the text begins is stated, what follows isn't.
-    Row { name: "unreadable responses are told", steps: &[CALLS_FIRST, Feed(UNREADABLE), Ends(1, Begins("Unpack response error ")), IsGone], ..FRESH },
-    Row { name: "the first frame decides, and its outcome is kept until it is taken", steps: &[CALLS_FIRST, Feed(ANSWERED), Feed(REFUSED), Ticks(18446744073709551615), EndsInput, Gives(1, true, 0x2a), Waits(1)], ..FRESH },
+    Row { name: "the first frame decides, and its outcome is kept until it is taken", steps: &[CALLS_FIRST, Feed(ANSWERED), Feed(REFUSED), Ticks(18446744073709551615), EndsInput, Gives(1, true, b"\x2a"), Waits(1)], ..FRESH },
 ];
 
 #[rattlefmt::skip]
 const ASYNC_FRAME_ROWS: &[Row] = &[
-    Row { name: "answers are given by their ids", steps: &[CALLS_FIRST, CALLS_SECOND, Feed(ANSWERED_NEXT), Waits(1), Feed(ANSWERED), Gives(1, true, 0x2a), Gives(3, true, 0x2b), Waits(3)], ..FRESH },
-    Row { name: "calls are told of in the order in which they ended", steps: &[NextEnded(None), CALLS_FIRST, CALLS_SECOND_IN_TIME, Calls(0, 0, 5), NextEnded(None), Feed(ANSWERED), Ticks(10), NextEnded(Some(1)), NextEnded(Some(3)), NextEnded(None), Gives(1, true, 0x2a), Ends(3, ELAPSED), Waits(3), NextEnded(None)], ..FRESH },
+    Row { name: "answers are given by their ids", steps: &[CALLS_FIRST, CALLS_SECOND, Feed(ANSWERED_NEXT), Waits(1), Feed(ANSWERED), Gives(1, true, b"\x2a"), Gives(3, true, b"\x2b"), Waits(3)], ..FRESH },
+    Row { name: "calls are told of in the order in which they ended", steps: &[NextEnded(None), CALLS_FIRST, CALLS_SECOND_IN_TIME, Calls(0, 0, 5), NextEnded(None), Feed(ANSWERED), Ticks(10), NextEnded(Some(1)), NextEnded(Some(3)), NextEnded(None), Gives(1, true, b"\x2a"), Ends(3, ELAPSED), Waits(3), NextEnded(None)], ..FRESH },
 ];
 
 #[rattlefmt::skip]
@@ -128,7 +110,7 @@ const EXPIRY_ROWS: &[Row] = &[
 
 #[rattlefmt::skip]
 const SYNC_EXPIRY_ROWS: &[Row] = &[
-    // A client of kind `Sync` writes a request in full, whatever becomes of its call.
+    // A client of kind `Sync` writes a begun request in full, even if its call has ended.
     Row { name: "a begun request is written in full", steps: &[CALLS_FIRST_IN_TIME, Leaves(ASKED, 0, 12), Ticks(10), Ends(1, ELAPSED), Waits(1), WritesBehind(ASKED, 12), CALLS_SECOND_IN_TIME, Leaves(ASKED_NEXT, 0, 12), DropsCall(3), WritesBehind(ASKED_NEXT, 12), IsAlive], ..FRESH },
     Row { name: "a timeout of 0 is no deadline, and a negative one is a long one", steps: &[CALLS_FIRST, Calls(-1, 0, 3), Calls(-1, 1, 5), Calls(1, 18446744073709551615, 7), Ticks(18446744073709551614), Waits(3), Ticks(18446744073709551615), Ends(3, ELAPSED), Waits(3), Waits(1), Waits(5), Waits(7)], ..FRESH },
 ];
@@ -163,7 +145,7 @@ const FAILURE_ROWS: &[Row] = &[Row {
         Ticks(10),
         Ends(1, Socket("first")),
         Waits(1),
-        Gives(3, true, 0x2b),
+        Gives(3, true, b"\x2b"),
         Ends(5, ELAPSED),
         Waits(5),
         HasFailed("first"),
@@ -175,7 +157,7 @@ const FAILURE_ROWS: &[Row] = &[Row {
 const END_ROWS: &[Row] = &[
     Row { name: "the input ends before a frame", steps: &[EndsInput, HasFailed("socket disconnected")], ..FRESH },
     Row { name: "the input ends behind a frame", steps: &[Feed(ANSWERED), EndsInput, HasFailed("socket disconnected")], ..FRESH },
-    Row { name: "a boundary is where no frame has begun", cuts: Cuts::Inside(15), steps: &[AtBoundary(true), CALLS_FIRST_IN_TIME, FeedToCut(ANSWERED), AtBoundary(false), FeedFromCut(ANSWERED), AtBoundary(true), Gives(1, true, 0x2a)], ..FRESH },
+    Row { name: "a boundary is where no frame has begun", cuts: Cuts::Inside(15), steps: &[AtBoundary(true), CALLS_FIRST_IN_TIME, FeedToCut(ANSWERED), AtBoundary(false), FeedFromCut(ANSWERED), AtBoundary(true), Gives(1, true, b"\x2a")], ..FRESH },
     Row { name: "the input ends inside a frame", cuts: Cuts::Inside(15), steps: &[FeedToCut(ANSWERED), EndsInput, HasFailed("socket disconnected inside a frame")], ..FRESH },
 ];
 
@@ -191,12 +173,12 @@ const LONG_ROWS: &[Row] = &[Row {
         Feed(ANSWERED_NEXT),
         Ends(1, Status(3, LONG_TEXT)),
         IsGone,
-        Gives(3, true, 0x2b),
+        Gives(3, true, b"\x2b"),
     ],
     ..FRESH
 }];
 
-/// Run once, by its cut, since each of its bytes comes alone anyhow.
+/// Each runs once, by its cut, since each of its bytes comes alone anyway.
 const SINGLE_ROWS: &[Row] = &[Row {
     name: "an oversized frame may come byte by byte",
     cuts: Cuts::Inside(2),
@@ -211,7 +193,7 @@ const SINGLE_ROWS: &[Row] = &[Row {
     ..FRESH
 }];
 
-// ---- what holds over halves that stamp, too
+// ---- tables that hold over halves that stamp, too
 
 #[test]
 fn frames_give_outcomes(rt: HostRuntime) -> Tested {
@@ -223,7 +205,7 @@ fn stamped_frames_give_outcomes(rt: HostRuntime) -> Tested {
     hold_stamped::<StampedClient>(&rt, rt.alloc(), FRAMES)
 }
 
-// ---- what holds over one kind of halves
+// ---- tables that hold over one kind of halves
 
 #[test]
 fn requests_are_numbered_queued_and_refused(rt: HostRuntime) -> Tested {

@@ -2,7 +2,6 @@
 use crate::server::*;
 use crate::tests::kinds::{PlainServer, SYNC_RULES, StampedServer};
 use crate::tests::script::Step::*;
-use crate::tests::script::Told::{self, Others, Socket};
 use crate::tests::script::{Cuts, FRESH, Row};
 use crate::tests::servers::{
     ANSWERS_FIRST, GREATEST_IS_SENT, KNOWN_ROWS, LONG_ROWS, SINGLE_ROWS, TAKES_FIRST,
@@ -10,6 +9,7 @@ use crate::tests::servers::{
 };
 use crate::tests::told::UNKNOWN_JOB;
 use crate::tests::under_test::{Table, Tested, hold, hold_stamped};
+use ttrpc_bench::vectors::Told::{self, Others, Socket};
 use ttrpc_server::Rules;
 
 const TABLES: &[Table<Rules>] = &[
@@ -31,24 +31,24 @@ const INSIDE: &str = "socket disconnected inside a frame";
 
 /// The first seven bytes of the usual request.
 const SEVEN_OF_ASKED: &[u8] = b"\0\0\0\x14\0\0\0";
-/// A request with no payload under stream 0.
+/// A request without a payload, with the id 0.
 const EVEN: &[u8] = b"\0\0\0\x11\0\0\0\0\x01\0\x0a\x09demo.Echo\x12\x04Echo";
-/// What answers it.
+/// The answer to `EVEN`.
 const EVEN_ECHOED: &[u8] = b"\0\0\0\x02\0\0\0\0\x02\0\x0a\0";
-/// What answers two requests under one id.
+/// The answers to two requests with one id.
 const TWICE_ECHOED: &[u8] = b"\
     \0\0\0\x05\0\0\0\x01\x02\0\x0a\0\x12\x01\x2a\
     \0\0\0\x05\0\0\0\x01\x02\0\x0a\0\x12\x01\x2b";
-/// A stream's name, which sync rules don't look for.
+/// A request to the name of a stream, which sync rules don't look for.
 const NO_STREAM: &[u8] = b"\0\0\0\x11\0\0\0\x01\x01\0\x0a\x09demo.Echo\x12\x04Chat";
-/// Data, a close of a stream, a response, and frames of types that there are none of.
+/// Data, a close of a stream, a response, and frames of unknown types.
 const SKIPPED: &[u8] = b"\
     \0\0\0\x01\0\0\0\x01\x03\0z\
     \0\0\0\0\0\0\0\x01\x03\x05\
     \0\0\0\x02\0\0\0\x01\x02\0\x0a\0\
     \0\0\0\0\0\0\0\x01\0\0\
     \0\0\0\0\0\0\0\x02\xff\0";
-/// What replaces a response that is a byte longer than the greatest.
+/// The replacement of a response that is a byte longer than the greatest.
 const REPLACED: &[u8] = b"\
     \0\0\0\x60\0\0\0\x01\x02\0\
     \x0a\x5e\x08\x03\x12\x5aresponse payload 4194305 bytes exceeds safe limit 4194304 bytes (after transform overhead)";
@@ -95,7 +95,7 @@ const FAILURE_ROWS: &[Row] = &[
 
 #[rattlefmt::skip]
 const FRONT_ROWS: &[Row] = &[
-    // The second request is no job before the first is answered, so the answers lie in the order of frames.
+    // The second request becomes a job only after the first is answered, so the answers are in the order of the frames.
     Row { name: "fronts of two requests end behind their frames", steps: &[Frame(TWICE, 0, 30), TAKES_FIRST, ANSWERS_FIRST, TakesNone, Frame(TWICE, 30, 30), Takes(2, 1, b"\x2b"), Answers(2, b"\x2b"), TakesNone, Writes(TWICE_ECHOED)], ..FRESH },
     Row { name: "fronts of a piece that ends inside a frame are all of it", cuts: Cuts::Inside(30), steps: &[FrameToCut(ASKED), AtBoundary(false), TakesNone, FrameFromCut(ASKED), TAKES_FIRST, ANSWERS_FIRST, TakesNone], ..FRESH },
     Row { name: "a front of an empty piece has no bytes", steps: &[Front(b"", 0), AtBoundary(true), TakesNone], ..FRESH },
@@ -104,7 +104,7 @@ const FRONT_ROWS: &[Row] = &[
     Row { name: "a core that has failed takes no front that ends a frame", steps: &[Feed(SEVEN_OF_ASKED), FailsBy("first"), RefusesFront(ASKED, 7, Socket("first")), AtBoundary(false), HasFailed("first")], ..FRESH },
 ];
 
-// ---- what holds over halves that stamp, too
+// ---- tables that hold over halves that stamp, too
 
 #[test]
 fn a_server_keeps_its_table(rt: HostRuntime) -> Tested {
@@ -131,7 +131,7 @@ fn stamped_oversized_requests_are_answered(rt: HostRuntime) -> Tested {
     hold_stamped::<StampedServer>(&rt, rt.alloc(), OVERLONG)
 }
 
-// ---- what holds over one kind of halves
+// ---- tables that hold over one kind of halves
 
 #[test]
 fn a_server_takes_parts_and_fails(rt: HostRuntime) -> Tested {

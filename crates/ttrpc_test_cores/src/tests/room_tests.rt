@@ -1,32 +1,32 @@
-//! What a core does that is short of room for what goes out: two frames of the greatest length find room, and no byte more.
+//! A core that is short of room for its output: two frames of the greatest length have room, and no byte more.
 use crate::server::{ASKED, ECHOED};
 use crate::tests::kinds::{
     ASYNC_KIND, ASYNC_RULES, PlainClient, PlainServer, SYNC_KIND, SYNC_RULES, StampedClient,
     StampedServer,
 };
 use crate::tests::script::Step::*;
-use crate::tests::script::Told::NoRoom;
 use crate::tests::script::{Cuts, FRESH, Row};
 use crate::tests::servers::{ANSWERS_FIRST, TAKES_FIRST};
 use crate::tests::under_test::{Table, Tested, hold, hold_stamped};
+use ttrpc_bench::vectors::Told::NoRoom;
 use ttrpc_client::ClientKind;
 use ttrpc_server::Rules;
 
-/// With eleven bytes around it, a payload of so many bytes makes a request of the greatest length.
+/// The payload of a request of the greatest length: eleven bytes are around it.
 const LONGEST: usize = 4194293;
-/// With seven bytes around it, a payload of so many bytes makes a response of the greatest length.
+/// The payload of a response of the greatest length: seven bytes are around it.
 const LONGEST_ANSWER: usize = 4194297;
-/// The header of a request of the greatest length under the first id.
+/// The header of a request of the greatest length with the first id.
 const LONG_REQUEST: &[u8] = b"\0\x40\0\0\0\0\0\x01\x01\0";
-/// The header of a response of the greatest length to it.
+/// The header of a response of the greatest length to `LONG_REQUEST`.
 const LONG_RESPONSE: &[u8] = b"\0\x40\0\0\0\0\0\x01\x02\0";
-/// Three requests under the ids 1, 3 and 5, of which the last has a timeout of ten nanoseconds.
+/// Three requests with the ids 1, 3 and 5. The last has a timeout of ten nanoseconds.
 const THREE_ASKED: &[u8] = b"\
     \0\0\0\x14\0\0\0\x01\x01\0\x0a\x09demo.Echo\x12\x04Echo\x1a\x01\x2a\
     \0\0\0\x14\0\0\0\x03\x01\0\x0a\x09demo.Echo\x12\x04Echo\x1a\x01\x2b\
     \0\0\0\x16\0\0\0\x05\x01\0\x0a\x09demo.Echo\x12\x04Echo\x1a\x01\x2c\x20\x0a";
 
-/// A row whose pieces, which are long, are not cut.
+/// A row with long pieces, which are not cut.
 const ROOM: Row = Row {
     cuts: Cuts::Whole,
     ..FRESH
@@ -47,7 +47,7 @@ const STAMPED_ANSWERS: &[Table<Rules>] = &[(SYNC_RULES, STAMPED_ANSWER_ROWS)];
 #[rattlefmt::skip]
 const CALL_ROWS: &[Row] = &[
     Row { name: "a call finds room as soon as ten bytes were reported", steps: &[CallsSevens(LONGEST, 1), CallsSevens(LONGEST, 3), RefusesBare(NoRoom), Lends(9, LONG_REQUEST, 0, 9), RefusesBare(NoRoom), Reports, RefusesBare(NoRoom), Lends(1, LONG_REQUEST, 9, 10), Reports, CallsBare(5), RefusesBare(NoRoom), IsAlive], ..ROOM },
-    Row { name: "a client takes what comes, whatever its room", steps: &[CallsSevens(LONGEST, 1), CallsSevens(LONGEST, 3), Feed(ECHOED), Gives(1, true, 0x2a), RefusesBare(NoRoom)], ..ROOM },
+    Row { name: "a client takes what comes, whatever its room", steps: &[CallsSevens(LONGEST, 1), CallsSevens(LONGEST, 3), Feed(ECHOED), Gives(1, true, b"\x2a"), RefusesBare(NoRoom)], ..ROOM },
     Row { name: "a stream finds no room, either", steps: &[CallsSevens(LONGEST, 1), CallsSevens(LONGEST, 3), RefusesStream(false, b"", NoRoom), Departs(100), Opens(true, true, b"", 5)], ..ROOM },
     Row { name: "an item and a close find no room", steps: &[Opens(true, true, b"", 1), CallsSevens(LONGEST, 3), SendsSevens(1, 4194277, 1), RefusesItem(1, NoRoom), Departs(27), Closes(1, 2)], ..ROOM },
 ];

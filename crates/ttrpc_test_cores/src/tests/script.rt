@@ -1,87 +1,69 @@
-//! What scripts are written in.
+//! The steps and the rows of scripts.
+use ttrpc_bench::vectors::Told;
 
-/// How an error is told.
-#[derive(Clone, Copy)]
-pub enum Told {
-    /// `Error::Others` of this text.
-    Others(&'static str),
-    /// `Error::Others` of a text that begins so.
-    Begins(&'static str),
-    /// `Error::Socket` of this text.
-    Socket(&'static str),
-    /// `Error::RpcStatus` of this code and message.
-    Status(i32, &'static str),
-    /// `Error::LocalClosed`.
-    LocalClosed,
-    /// `Error::RemoteClosed`.
-    RemoteClosed,
-    /// `Error::Eof`.
-    Eof,
-    /// `Error::NoRoom`.
-    NoRoom,
-}
-
-/// What is done to a core, and what is looked for. A step that a core doesn't know isn't met.
+/// An action on a core, or a check of it. A step that a core doesn't have isn't met.
 #[derive(Clone, Copy)]
 pub enum Step {
     // ---- of either core
     /// Takes these bytes, in the run's pieces.
     Feed(&'static [u8]),
-    /// Takes so many bytes 7, in pieces of at least a 4,096th of them, and otherwise in the run's.
+    /// Takes this number of bytes 7, in pieces of the run's size, but of at least a 4,096th of them.
     FeedSevens(usize),
-    /// Takes so many bytes 7, one at a time.
+    /// Takes this number of bytes 7, one at a time.
     FeedSingly(usize),
     /// Takes the front of these bytes up to the run's cut, as one piece.
     FeedToCut(&'static [u8]),
-    /// Takes what stands behind the run's cut, as one piece.
+    /// Takes the bytes after the run's cut, as one piece.
     FeedFromCut(&'static [u8]),
-    /// Whether no frame has begun.
+    /// Checks whether no frame has begun.
     AtBoundary(bool),
-    /// All that is left to be written is this, and it leaves.
+    /// All unsent bytes are these, and they leave.
     Writes(&'static [u8]),
-    /// The same of what stands behind so many bytes of these.
+    /// All unsent bytes are a response of stream 1 with this code, and with a message that begins with this text.
+    WritesStatus(i32, &'static str),
+    /// All unsent bytes are these after the first `usize` of them, and they leave.
     WritesBehind(&'static [u8], usize),
-    /// A buffer of so many bytes, at most 64, gets those of these bytes from the second number up to the third.
+    /// A buffer of this size, at most 64, gets the bytes from the first position up to the second.
     Lends(usize, &'static [u8], usize, usize),
-    /// So many bytes are lent.
+    /// This number of bytes is lent.
     Lent(usize),
-    /// What was lent is reported as written.
+    /// The lent bytes are reported as written.
     Reports,
-    /// The bytes from the first number up to the second leave.
+    /// The bytes from the first position up to the second leave.
     Leaves(&'static [u8], usize, usize),
-    /// So many bytes leave, whichever they are.
+    /// This number of bytes leaves, whatever they are.
     Departs(usize),
-    /// The first bytes come so many times, each time whole, and behind each all that is left to be written is the second
+    /// The first bytes come this number of times, each time whole. After each time all unsent bytes are the second
     /// bytes, which leave.
     Repeats(&'static [u8], &'static [u8], u32),
     /// The input ends.
     EndsInput,
-    /// The connection is failed, with a text for a socket's error.
+    /// The connection is failed with a socket's error with this text.
     FailsBy(&'static str),
-    /// This moment comes.
+    /// The clock moves to this moment.
     Ticks(u64),
     /// The next deadline is this one.
     NextDeadline(Option<u64>),
     /// The connection hasn't failed.
     IsAlive,
-    /// The connection has failed, with this text: nothing is taken, lent or asked any more.
+    /// The connection has failed with this text: nothing is taken, lent or accepted any more.
     HasFailed(&'static str),
 
     // ---- of a server
-    /// Takes the first bytes, in the run's pieces. Behind each piece each job is answered with its own payload, and what
-    /// is written then is the second bytes.
+    /// Takes the first bytes, in the run's pieces. After each piece each job is answered with its own payload, and the
+    /// second bytes are written then.
     Serves(&'static [u8], &'static [u8]),
     /// Takes these bytes at this moment, in the run's pieces.
     FeedAt(&'static [u8], u64),
-    /// One front of these bytes has so many.
+    /// One front of these bytes has this length.
     Front(&'static [u8], usize),
-    /// Fronts of what stands behind the first number of bytes end a frame after the second.
+    /// A frame ends after this number of bytes, if fronts are taken of the bytes from the position on.
     Frame(&'static [u8], usize, usize),
     /// Fronts of these bytes up to the run's cut take all of them.
     FrameToCut(&'static [u8]),
-    /// Fronts of what stands behind the run's cut take all of it.
+    /// Fronts of the bytes after the run's cut take all of them.
     FrameFromCut(&'static [u8]),
-    /// No front is taken of what stands behind so many of these bytes.
+    /// A front of the bytes from the position on is refused with this error.
     RefusesFront(&'static [u8], usize, Told),
     /// The job that is handed out has this id, this stream and this payload.
     Takes(u64, u32, &'static [u8]),
@@ -89,159 +71,161 @@ pub enum Step {
     TakesNone,
     /// The job of this id is answered with this payload.
     Answers(u64, &'static [u8]),
-    /// The same with so many bytes 7.
+    /// The same with this number of bytes 7.
     AnswersSevens(u64, usize),
-    /// An answer to the first job is refused so, twice, and the same answer is given to the second.
+    /// An answer to the first job is refused with this error, twice, and the same answer is given to the second.
     AnswersAgain(u64, Told, u64, &'static [u8]),
-    /// An answer to the job of this id is refused so, and so again.
+    /// An answer to the job with this id is refused with this error, twice.
     RefusesAnswer(u64, Told),
-    /// The handler of the job of this id failed.
+    /// The handler of the job with this id failed.
     Breaks(u64),
-    /// The same by a status of this code and message.
+    /// The same with a status with this code and message.
     BreaksBy(u64, i32, &'static str),
-    /// A response with this payload is queued under this stream's id.
+    /// A response with this payload is queued with this stream id.
     Responds(u32, &'static [u8]),
-    /// The same with so many bytes 7.
+    /// The same with this number of bytes 7.
     RespondsSevens(u32, usize),
-    /// A response without a status and a payload is queued under this stream's id.
+    /// A response without a status and a payload is queued with this stream id.
     RespondsBare(u32),
-    /// A response under this stream's id is refused so, and so again.
+    /// A response with this stream id is refused with this error, twice.
     RefusesResponse(u32, Told),
-    /// The job of this id is ended.
+    /// The job with this id is ended.
     Finishes(u64),
-    /// The end of the job of this id is refused so, and so again.
+    /// The end of the job with this id is refused with this error, twice.
     RefusesFinish(u64, Told),
-    /// The stream of the job of this id, which was taken and hasn't ended; none, if it wasn't or has.
+    /// The stream of the job with this id, if it was taken and hasn't ended.
     StreamOf(u64, Option<u32>),
-    /// The next job that was taken and expired is this one.
+    /// The next taken job that expired is this one.
     NextExpired(Option<u64>),
-    /// How many jobs wait, and how many were taken and haven't ended.
+    /// The number of jobs that wait, and the number that were taken and haven't ended.
     Jobs(u64, u64),
-    /// From now on nothing that comes in is taken.
+    /// From now on no input is taken.
     Drains,
-    /// Of these bytes nothing is taken, whole or as a front.
+    /// None of these bytes are taken, whole or as a front.
     TakesNothing(&'static [u8]),
-    /// Whether anything is left to be written.
+    /// Checks whether there are unsent bytes.
     HasUnsent(bool),
-    /// All that is left to be written is a response of stream 1 with this code, and a message that begins so.
-    WritesStatus(i32, &'static str),
-    /// So many requests wait, each of a stream of its own, and are answered, the last first.
+    /// This number of requests waits, each of its own stream, and they are answered, the last first.
     ServesLastFirst(u32),
-    /// So many requests wait, each of a stream of its own, and all expire by one tick, while so many others stay.
+    /// This number of requests waits, each of its own stream, and all expire at one tick, while the same number of
+    /// others stays.
     JobsExpireAtOnce(u32),
-    /// So many requests wait, each of a stream of its own, are taken, and expire one after the other, each by a tick.
+    /// This number of requests waits, each of its own stream. They are taken, and expire one after the other, each at
+    /// its own tick.
     JobsExpireInTurn(u32),
 
     // ---- of a server's streams
-    /// The job that is handed out is a stream's, without a payload, and has this id and this stream.
+    /// The job that is handed out is a stream's, has no payload, and has this id and this stream.
     TakesStream(u64, u32),
-    /// The stream of the job of this id is ended by a frame that closes it.
+    /// The stream of the job with this id is ended with a frame that closes it.
     EndsStream(u64),
-    /// The same by a response with this payload.
+    /// The same with a response with this payload.
     EndsWith(u64, &'static [u8]),
-    /// The same by a response with so many bytes 7.
+    /// The same with a response with this number of bytes 7.
     EndsWithSevens(u64, usize),
-    /// The same by a response with a status of this code and message.
+    /// The same with a response with a status with this code and message.
     EndsBy(u64, i32, &'static str),
-    /// The same by an error.
+    /// The same with an error.
     EndsByError(u64),
-    /// The end of the stream of the job of this id is refused so, and so again.
+    /// The end of the stream of the job with this id is refused with this error, twice.
     RefusesEnd(u64, Told),
-    /// So many streams are opened, an item comes for each, and they are received and ended, the last first.
+    /// This number of streams is opened, and an item comes for each. The items are received and the streams are ended,
+    /// the last first.
     StreamJobsLastFirst(u32),
 
     // ---- of a client
-    /// A call with the payload 01 02 03, this timeout and at this moment gets this id.
+    /// A call with the payload 01 02 03 and this timeout gets this id. It is made at this moment.
     Calls(i64, u64, u32),
-    /// A call with so many bytes 7 gets this id.
+    /// A call with this number of bytes 7 gets this id.
     CallsSevens(usize, u32),
-    /// A call whose request has no field gets this id.
+    /// A call with an empty request gets this id.
     CallsBare(u32),
-    /// Such a call is refused so, and so again.
+    /// Such a call is refused with this error, twice.
     RefusesBare(Told),
-    /// A call is refused so, and so again.
+    /// A call is refused with this error, twice.
     RefusesCall(Told),
-    /// The same of one with so many bytes 7.
+    /// A call with this number of bytes 7 is refused with this error, twice.
     RefusesSevens(usize, Told),
-    /// The first call is refused so, and so again: it uses no id and queues nothing, and the connection lives.
+    /// The first call is refused with this error, twice: it uses no id and queues nothing, and the connection lives.
     RefusesFirstCall(Told),
-    /// There is no outcome under this id.
+    /// There is no outcome with this id.
     Waits(u32),
     /// The first call has no outcome any more, and no frame finds it again.
     IsGone,
-    /// The outcome under this id is a response: whether it has a status, which is OK, and its payload of one byte.
-    Gives(u32, bool, u8),
-    /// The outcome under this id is this error.
+    /// The outcome with this id is a response with this payload. If the flag is set, it has an OK status.
+    Gives(u32, bool, &'static [u8]),
+    /// The outcome with this id is this error.
     Ends(u32, Told),
-    /// The call of this id is dropped.
+    /// The call with this id is dropped.
     DropsCall(u32),
     /// The next call that ended is this one.
     NextEnded(Option<u32>),
-    /// So many calls are made and answered, the last first.
+    /// This number of calls is made and answered, the last first.
     CallsLastFirst(u32),
-    /// So many calls are made, every second one is dropped, and answers to all come, the last first.
+    /// This number of calls is made, every second one is dropped, and answers to all of them come, the last first.
     CallsHalfDropped(u32),
-    /// So many calls are made, and all expire by one tick.
+    /// This number of calls is made, and all expire at one tick.
     CallsExpireAtOnce(u32),
 
     // ---- of streams
-    /// A stream is opened, by whether it is to send items and to receive them, with this payload, and gets this id.
+    /// A stream is opened with this payload, and gets this id. The flags say whether it sends items and whether it
+    /// receives them.
     Opens(bool, bool, &'static [u8], u32),
-    /// A stream that is to send items, or not, with this payload is refused so, and so again.
+    /// A stream that sends items, or not, with this payload is refused with this error, twice.
     RefusesStream(bool, &'static [u8], Told),
-    /// The same of a stream that sends none, with so many bytes 7.
+    /// A stream that sends no items, with this number of bytes 7, is refused with this error, twice.
     RefusesStreamOfSevens(usize, Told),
-    /// An item is sent on the stream of this id, and gets this ticket.
+    /// An item is sent on the stream with this id, and gets this ticket.
     Sends(u32, &'static [u8], u64),
-    /// The same of one of so many bytes 7.
+    /// An item of this number of bytes 7 is sent on the stream with this id, and gets this ticket.
     SendsSevens(u32, usize, u64),
-    /// The stream of this id is closed, by a frame of this ticket.
+    /// The stream with this id is closed, with a frame with this ticket.
     Closes(u32, u64),
-    /// To send an item on the stream of this id, and to close it, is refused so, and so again.
+    /// Sending an item on the stream with this id, and closing the stream, is refused with this error, twice.
     RefusesSending(u32, Told),
-    /// To send an item is refused so, and so again.
+    /// Sending an item is refused with this error, twice.
     RefusesItem(u32, Told),
-    /// The same of one of so many bytes 7.
+    /// Sending an item of this number of bytes 7 is refused with this error, twice.
     RefusesSevensOn(u32, usize, Told),
-    /// The next item of the stream of this id is this one.
+    /// The next item of the stream with this id is this one.
     Receives(u32, &'static [u8]),
-    /// None has come yet.
+    /// No item of this stream has come yet.
     ReceivesNone(u32),
-    /// In place of one this error comes.
+    /// This error comes instead of an item.
     ReceivesError(u32, Told),
-    /// The receiver of the stream of this id is dropped.
+    /// The receiver of the stream with this id is dropped.
     DropsReceiver(u32),
-    /// Its sender is.
+    /// The sender of the stream with this id is dropped.
     DropsSender(u32),
-    /// The frame of this ticket was sent.
+    /// The frame with this ticket was sent.
     IsSent(u64),
-    /// It wasn't yet.
+    /// The frame with this ticket wasn't sent yet.
     IsUnsent(u64),
-    /// It wasn't, and won't be, for this.
+    /// The frame with this ticket wasn't sent and never will be, for this reason.
     IsNeverSent(u64, Told),
-    /// The next stream for which something came is this one.
+    /// The next stream with an event is this one.
     NextHeard(Option<u32>),
-    /// So many items come for the stream of this id, and nobody asks.
+    /// This number of items comes for the stream with this id, and none is received.
     ItemsCome(u32, u32),
-    /// They are received.
+    /// These items are received.
     ReceivesEach(u32, u32),
-    /// So many streams are opened, an item comes for each, and they are received, the last first.
+    /// This number of streams is opened, and an item comes for each. They are received, the last first.
     StreamsLastFirst(u32),
-    /// So many items are sent on the stream of this id, the first ones of its connection. Each is asked about before all
-    /// leave, and as it leaves.
+    /// This number of items is sent on the stream with this id, as the first ones of its connection. Each item's ticket
+    /// is checked before all of them leave, and as it leaves.
     SendsEach(u32, u32),
 }
 
-/// How a core starts.
+/// The start of a core.
 #[derive(Clone, Copy)]
 pub enum Start {
-    /// As it is new.
+    /// A new core.
     Fresh,
-    /// With the last id as that of the first call.
+    /// The first call gets the last id.
     AtLastId,
-    /// Where requests that open streams may be bare.
+    /// Requests that open streams may be bare.
     BareOpenings,
-    /// With an outbound half that leaves room for so many bytes, where it seals nothing.
+    /// An outbound half that seals nothing leaves room for this number of bytes.
     Room(usize),
 }
 
@@ -252,21 +236,21 @@ pub enum Cuts {
     Whole,
     /// Once whole, and once one byte at a time.
     WholeAndBytes,
-    /// At each place inside a frame of so many bytes, in turn.
+    /// At each place inside a frame of this length, in turn.
     Inside(usize),
 }
 
-/// A script, run on a new core for each way of cutting.
+/// A script. It runs on a new core for each way of cutting.
 #[derive(Clone, Copy)]
 pub struct Row {
-    /// What it shows.
+    /// The behaviour that it shows.
     pub name: &'static str,
     pub start: Start,
     pub cuts: Cuts,
     pub steps: &'static [Step],
 }
 
-/// What most rows have.
+/// The defaults of a row.
 pub const FRESH: Row = Row {
     name: "",
     start: Start::Fresh,

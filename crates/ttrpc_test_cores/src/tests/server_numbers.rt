@@ -1,4 +1,4 @@
-//! Many requests of a server at once.
+//! Many requests of a server at the same time.
 use crate::server::ASKED;
 use crate::tests::server_steps::{answers, ticks};
 use crate::tests::steps::leaves;
@@ -7,8 +7,9 @@ use std::alloc::Global;
 use ttrpc_proto::Error;
 use ttrpc_wire::values::slices::behind;
 
-/// So many requests come, of the odd streams from 1 on, and are taken before the first is answered. The last is answered
-/// first, with its own stream's lowest byte, and so are the answers written.
+/// Returns whether `count` requests are served that are all taken before the first is answered. They have the odd
+/// stream ids from 1 on. The last is answered first, with the lowest byte of its stream id, and the answers are written
+/// in that order.
 pub fn serves_last_first<S: Server>(alloc: Global, core: &mut S, count: u32) -> Met {
     Ok(
         asks_each(alloc, core, count)?
@@ -22,8 +23,9 @@ pub fn serves_last_first<S: Server>(alloc: Global, core: &mut S, count: u32) -> 
     )
 }
 
-/// So many requests with a timeout come, each a nanosecond behind the one before, and behind each one without, of the odd
-/// streams from 1 on. The first is taken. All that have a timeout expire by one tick, and are answered in their order.
+/// Returns whether `count` requests with a timeout expire at one tick. They come a nanosecond apart, each with a
+/// request without a timeout after it, and have the odd stream ids from 1 on. The first is taken. All that have a
+/// timeout expire, and are answered in their order.
 pub fn jobs_expire_at_once<S: Server>(alloc: Global, core: &mut S, count: u32) -> Met {
     if !asks_in_pairs(alloc, core, count)? || core.take_job().is_none() {
         return Ok(false);
@@ -38,8 +40,8 @@ pub fn jobs_expire_at_once<S: Server>(alloc: Global, core: &mut S, count: u32) -
     )
 }
 
-/// So many requests with a timeout come, of the odd streams from 1 on, each a nanosecond behind the one before, and are
-/// taken. Each expires by a tick of its own, is told of, and is answered.
+/// Returns whether `count` requests with a timeout expire one after the other. They come a nanosecond apart, with the
+/// odd stream ids from 1 on, and are taken. Each expires at its own tick, is reported, and is answered.
 pub fn jobs_expire_in_turn<S: Server>(alloc: Global, core: &mut S, count: u32) -> Met {
     for job in 1..=count {
         asks_in_time(alloc, core, stream_of(job), u64::from(job))?;
@@ -68,19 +70,19 @@ fn expire_in_turn<S: Server>(alloc: Global, core: &mut S, count: u32) -> Met {
     Ok(true)
 }
 
-/// The stream's id of a job, of those from 1 on.
+/// Returns the stream id of the job with this number, from 1.
 fn stream_of(job: u32) -> u32 {
     job.wrapping_mul(2).wrapping_sub(1)
 }
 
-/// The usual request of this stream.
+/// Feeds the usual request of this stream.
 fn asks<S: Server>(alloc: Global, core: &mut S, stream: u32) -> Result<usize, Error> {
     let [a, b, c, d] = stream.to_be_bytes();
     core.feed(alloc, &[0, 0, 0, 0x14, a, b, c, d, 1, 0])?;
     core.feed(alloc, behind(ASKED, 10))
 }
 
-/// The same with a timeout of ten nanoseconds, at this moment.
+/// Feeds the same with a timeout of ten nanoseconds, at this moment.
 fn asks_in_time<S: Server>(
     alloc: Global,
     core: &mut S,
@@ -93,14 +95,14 @@ fn asks_in_time<S: Server>(
     core.feed_at(alloc, &[0x20, 10], now)
 }
 
-/// The answer to a job that expired leaves.
+/// Returns whether the answer to a job that expired leaves.
 fn times_out<C: End>(core: &mut C, stream: u32) -> bool {
     let [a, b, c, d] = stream.to_be_bytes();
     leaves(core, &[0, 0, 0, 0x0d, a, b, c, d, 2, 0])
         && leaves(core, b"\x0a\x0b\x08\x04\x12\x07timeout")
 }
 
-/// Pairs of requests: one with a timeout, and one without.
+/// Feeds pairs of requests: one with a timeout, and one without.
 fn asks_in_pairs<S: Server>(alloc: Global, core: &mut S, count: u32) -> Met {
     for number in 0..count {
         let job = number.wrapping_mul(2).wrapping_add(1);
@@ -110,7 +112,7 @@ fn asks_in_pairs<S: Server>(alloc: Global, core: &mut S, count: u32) -> Met {
     Ok(true)
 }
 
-/// The first of each pair is answered as one that expired.
+/// Returns whether the first of each pair is answered as expired.
 fn first_ones_time_out<C: End>(core: &mut C, count: u32) -> bool {
     for number in 0..count {
         let job = number.wrapping_mul(2).wrapping_add(1);
@@ -121,7 +123,7 @@ fn first_ones_time_out<C: End>(core: &mut C, count: u32) -> bool {
     true
 }
 
-/// The usual request of the stream of each job.
+/// Feeds the usual request of the stream of each job.
 fn asks_each<S: Server>(alloc: Global, core: &mut S, count: u32) -> Met {
     for job in 1..=count {
         asks(alloc, core, stream_of(job))?;

@@ -1,18 +1,19 @@
 //! The steps of a server.
-use crate::tests::script::{Step, Told};
+use crate::tests::script::Step;
 use crate::tests::server_numbers::{jobs_expire_at_once, jobs_expire_in_turn, serves_last_first};
 use crate::tests::steps::{drained, tells};
 use crate::tests::stream_job_steps::stream_job_step;
 use crate::tests::under_test::{Met, Server};
 use std::alloc::Global;
 use std::test::Fail;
+use ttrpc_bench::vectors::Told;
 use ttrpc_proto::{Error, Response, Status};
 use ttrpc_server::{Job, JobId};
 use ttrpc_wire::codec::message::WireMessage;
 use ttrpc_wire::values::slices::{behind, front};
-use ttrpc_wire::{Blob, Codec, Text};
+use ttrpc_wire::{Blob, Text};
 
-/// A step that only a server knows.
+/// Does a step that only a server has. Returns whether it is met.
 pub fn server_step<S: Server>(alloc: Global, core: &mut S, step: &Step, cut: usize) -> Met {
     match *step {
         Step::Takes(id, stream, payload) => Ok(takes(core, id, stream, payload)),
@@ -33,7 +34,6 @@ pub fn server_step<S: Server>(alloc: Global, core: &mut S, step: &Step, cut: usi
         Step::Drains => Ok(drains(core)),
         Step::TakesNothing(bytes) => takes_nothing(alloc, core, bytes),
         Step::Serves(bytes, expected) => serves(alloc, core, bytes, cut, expected),
-        Step::WritesStatus(code, begins) => writes_status(alloc, core, code, begins),
         Step::ServesLastFirst(count) => serves_last_first(alloc, core, count),
         Step::Responds(stream, payload) => responds(alloc, core, stream, payload),
         Step::RespondsSevens(stream, length) => responds_sevens(alloc, core, stream, length),
@@ -48,7 +48,7 @@ pub fn server_step<S: Server>(alloc: Global, core: &mut S, step: &Step, cut: usi
     }
 }
 
-/// How a server refuses an answer, where no job is handed out: none where it doesn't.
+/// Returns the error with which a server refuses an answer, or `None` if it doesn't. No job may be handed out.
 pub fn server_refusal<S: Server>(alloc: Global, core: &mut S) -> Option<Error> {
     if core.take_job().is_some() {
         return None;
@@ -57,7 +57,7 @@ pub fn server_refusal<S: Server>(alloc: Global, core: &mut S) -> Option<Error> {
     core.answer(alloc, 1, &answer).err()
 }
 
-/// A step that asks for the moment.
+/// Does a step that needs the moment. Returns whether it is met.
 fn moment_step<S: Server>(alloc: Global, core: &mut S, step: &Step, cut: usize) -> Met {
     match *step {
         Step::FeedAt(bytes, now) => feeds_at(alloc, core, bytes, now, cut),
@@ -70,7 +70,7 @@ fn moment_step<S: Server>(alloc: Global, core: &mut S, step: &Step, cut: usize) 
     }
 }
 
-/// This moment comes. Where memory for an answer was refused, the test ends with that error.
+/// Moves the clock to this moment. If memory for an answer was refused, returns that as the test's error.
 pub fn ticks<S: Server>(alloc: Global, core: &mut S, now: u64) -> Met {
     core.tick(alloc, now);
     match core.failure(alloc) {
@@ -79,7 +79,7 @@ pub fn ticks<S: Server>(alloc: Global, core: &mut S, now: u64) -> Met {
     }
 }
 
-/// Bytes are taken whole at this moment, in pieces of this size.
+/// Returns whether the bytes are taken whole at this moment, in pieces of this size.
 pub fn feeds_at<S: Server>(
     alloc: Global,
     core: &mut S,
@@ -95,7 +95,7 @@ pub fn feeds_at<S: Server>(
     Ok(true)
 }
 
-/// A step that takes fronts of a piece.
+/// Does a step that takes fronts of a piece. Returns whether it is met.
 fn front_step<S: Server>(alloc: Global, core: &mut S, step: &Step, cut: usize) -> Met {
     match *step {
         Step::Front(bytes, count) => Ok(core.feed_front(alloc, bytes)? == count),
@@ -111,9 +111,9 @@ fn front_step<S: Server>(alloc: Global, core: &mut S, step: &Step, cut: usize) -
     }
 }
 
-// ---- what a server has
+// ---- responses of a server
 
-/// A response with an OK status and this payload.
+/// Returns a response with an OK status and this payload.
 pub fn ok_response(alloc: Global, payload: Blob) -> Response {
     Response {
         status: Some(Status::new(alloc)),
@@ -121,7 +121,7 @@ pub fn ok_response(alloc: Global, payload: Blob) -> Response {
     }
 }
 
-/// A status of this code and message.
+/// Returns a status with this code and message.
 pub fn status_of(alloc: Global, code: i32, message: &str) -> Result<Status, Fail> {
     let mut status = Status::new(alloc);
     status.code = code;
@@ -131,7 +131,7 @@ pub fn status_of(alloc: Global, code: i32, message: &str) -> Result<Status, Fail
 
 // ---- fronts
 
-/// Takes fronts of a piece until one ends a frame, and says how many bytes that are.
+/// Takes fronts of a piece until one ends a frame, and returns the number of bytes that were taken.
 fn frame_taken<S: Server>(alloc: Global, core: &mut S, piece: &[u8]) -> Result<usize, Fail> {
     let mut taken: usize = 0;
     for _ in 0..piece.len() {
@@ -175,7 +175,7 @@ fn takes<S: Server>(core: &mut S, id: JobId, stream: u32, payload: &[u8]) -> boo
     }
 }
 
-/// The job is answered with these bytes.
+/// Answers the job with these bytes.
 pub fn answers<S: Server>(alloc: Global, core: &mut S, id: JobId, payload: &[u8]) -> Met {
     let payload = Blob::from_slice(alloc, payload)?;
     gives(alloc, core, id, &Ok(ok_response(alloc, payload)))
@@ -195,7 +195,7 @@ fn breaks_by<S: Server>(alloc: Global, core: &mut S, id: JobId, code: i32, messa
     gives(alloc, core, id, &Err(Error::RpcStatus(status)))
 }
 
-/// The answer is given.
+/// Gives the answer.
 fn gives<S: Server>(
     alloc: Global,
     core: &mut S,
@@ -206,7 +206,7 @@ fn gives<S: Server>(
     Ok(true)
 }
 
-/// The answer is refused so, and so again.
+/// Returns whether the answer is refused with this error, twice.
 fn refuses_twice<S: Server>(
     alloc: Global,
     core: &mut S,
@@ -230,7 +230,7 @@ fn refuses_answer<S: Server>(alloc: Global, core: &mut S, id: JobId, why: Told) 
     )
 }
 
-/// An answer that was refused is still its caller's, who gives it to another job.
+/// Returns whether an answer that was refused can be given to another job: it is still the caller's.
 fn answers_again<S: Server>(
     alloc: Global,
     core: &mut S,
@@ -275,7 +275,7 @@ fn responds_sevens<S: Server>(alloc: Global, core: &mut S, stream: u32, length: 
     Ok(true)
 }
 
-/// The response is refused so, and so again.
+/// Returns whether the response is refused with this error, twice.
 fn refuses_response<S: Server>(alloc: Global, core: &mut S, stream: u32, why: Told) -> Met {
     let response = ok_response(alloc, Blob::new(alloc));
     Ok(
@@ -295,7 +295,7 @@ fn refuses_finish<S: Server>(alloc: Global, core: &mut S, id: JobId, why: Told) 
 
 // ---- whole services
 
-/// Answers the job that is handed out with its own payload. Says whether there was one.
+/// Answers the job that is handed out with its own payload. Returns whether there was one.
 fn echoes<S: Server>(alloc: Global, core: &mut S) -> Met {
     match core.take_job() {
         None => Ok(false),
@@ -303,7 +303,7 @@ fn echoes<S: Server>(alloc: Global, core: &mut S) -> Met {
     }
 }
 
-/// Answers each job that waits, of which there are at most so many, with its own payload.
+/// Answers each job that waits, but at most `at_most` of them, with its own payload.
 fn echoes_all<S: Server>(alloc: Global, core: &mut S, at_most: usize) -> Met {
     for _ in 0..at_most {
         if !echoes(alloc, core)? {
@@ -313,7 +313,8 @@ fn echoes_all<S: Server>(alloc: Global, core: &mut S, at_most: usize) -> Met {
     Ok(true)
 }
 
-/// The bytes are taken in pieces of this size. Behind each, each job is answered with its own payload, and all is written.
+/// Takes the bytes in pieces of this size. After each piece each job is answered with its own payload. Returns whether
+/// the expected bytes are written then.
 pub fn serves<S: Server>(
     alloc: Global,
     core: &mut S,
@@ -331,25 +332,4 @@ pub fn serves<S: Server>(
         }
     }
     Ok(rest.is_empty())
-}
-
-// ---- responses that are read
-
-fn writes_status<S: Server>(alloc: Global, core: &mut S, code: i32, begins: &str) -> Met {
-    let mut buffer = [0; 256];
-    let count = core.lend(&mut buffer);
-    core.report();
-    Ok(!core.has_unsent() && is_status(alloc, front(&buffer, count), code, begins)?)
-}
-
-/// The frame is a response of stream 1, with this code and a message that begins so.
-fn is_status(alloc: Global, frame: &[u8], code: i32, begins: &str) -> Met {
-    let [_, _, _, _, 0, 0, 0, 1, 2, 0, payload @ ..] = frame else {
-        return Ok(false);
-    };
-    let response = Response::decode(alloc, payload)?;
-    Ok(match &response.status {
-        Some(status) => status.code == code && status.message.as_str().starts_with(begins),
-        None => false,
-    })
 }

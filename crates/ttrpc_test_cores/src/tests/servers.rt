@@ -1,37 +1,38 @@
-//! What rows of servers share: bytes, all written by hand, steps, and the rows that hold under either rules.
+//! The shared parts of the rows of servers: bytes, all written by hand, steps, and the rows that hold under either
+//! rules.
 use crate::server::{
     ASKED, ECHOED, EMPTY_ECHOED, FLAGGED, GREATEST, OVERSIZED, OVERSIZED_ANSWER, UNREADABLE,
 };
 use crate::tests::script::Step::{self, *};
 use crate::tests::script::{Cuts, FRESH, Row};
 
-// ---- what goes over the wire
+// ---- frames
 
-/// What answers a handler's error.
+/// The answer after a handler's error.
 pub const EOF_ANSWER: &[u8] = b"\0\0\0\x09\0\0\0\x01\x02\0\x0a\x07\x08\x02\x12\x03eof";
-/// What answers a frame of 4194305 bytes, and replaces a response of as many.
+/// The answer to a frame of 4194305 bytes, which also replaces a response of that length.
 pub const LONG_ANSWER: &[u8] = b"\
     \0\0\0\x43\0\0\0\x01\x02\0\
     \x0a\x41\x08\x03\x12\x3dmessage length 4194305 exceed maximum message size of 4194304";
 /// The request with its stamp.
 pub const STAMPED: &[u8] = b"\0\0\0\x15\0\0\0\x01\x01\0\x0a\x09demo.Echo\x12\x04Echo\x1a\x01\x2a\0";
-/// What answers it.
+/// The answer to `STAMPED`.
 pub const STAMPED_ECHOED: &[u8] = b"\0\0\0\x06\0\0\0\x01\x02\0\x0a\0\x12\x01\x2a\0";
 /// The request with a bad stamp, and with the right one.
 pub const BAD_STAMP_FIRST: &[u8] = b"\
     \0\0\0\x15\0\0\0\x01\x01\0\x0a\x09demo.Echo\x12\x04Echo\x1a\x01\x2a\x07\
     \0\0\0\x15\0\0\0\x01\x01\0\x0a\x09demo.Echo\x12\x04Echo\x1a\x01\x2a\0";
-/// What replaces a response of 4194304 bytes.
+/// The replacement of a response of 4194304 bytes.
 const STAMPED_REPLACED: &[u8] = b"\
     \0\0\0\x61\0\0\0\x01\x02\0\
     \x0a\x5e\x08\x03\x12\x5aresponse payload 4194304 bytes exceeds safe limit 4194303 bytes (after transform overhead)\0";
 
-// ---- what is done with the first job
+// ---- the first job
 
 /// The usual request of stream 1 is handed out.
 pub const TAKES_FIRST: Step = Takes(1, 1, b"\x2a");
 
-/// It is answered with its own payload.
+/// The job is answered with its own payload.
 pub const ANSWERS_FIRST: Step = Answers(1, b"\x2a");
 
 // ---- rows that hold under either rules
@@ -42,7 +43,7 @@ pub const KNOWN_ROWS: &[Row] = &[
     Row { name: "flags of a request mean nothing", steps: &[Serves(FLAGGED, EMPTY_ECHOED)], ..FRESH },
 ];
 
-// How the text begins is stated, what follows isn't.
+// Only the beginning of the text is specified.
 pub const UNREADABLE_ROWS: &[Row] = &[Row {
     name: "unreadable requests are answered",
     steps: &[
@@ -63,7 +64,7 @@ pub const LONG_ROWS: &[Row] = &[Row {
     ..FRESH
 }];
 
-/// Run once, by its cut, since each of its bytes comes alone anyhow.
+/// Each runs once, by its cut, since each of its bytes comes alone anyway.
 pub const SINGLE_ROWS: &[Row] = &[Row {
     name: "an oversized frame may come byte by byte",
     cuts: Cuts::Inside(2),
@@ -87,7 +88,7 @@ pub const GREATEST_IS_SENT: Row = Row {
     ..FRESH
 };
 
-/// With the stamp, 4194303 bytes are the greatest response.
+/// Without its stamp, a response has at most 4194303 bytes.
 pub const ABOVE_LIMIT_ROWS: &[Row] = &[Row {
     name: "an answer above the safe limit is replaced",
     steps: &[

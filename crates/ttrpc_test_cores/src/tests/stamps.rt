@@ -1,4 +1,4 @@
-//! What a script's frames are between halves that stamp: each has its stamp behind its payload.
+//! The frames of a script between halves that stamp: each has its stamp after its payload.
 use std::alloc::{AllocError, Global};
 use ttrpc_wire::values::slices::{behind, front};
 
@@ -9,7 +9,7 @@ pub struct Stamps {
     pub leaves: u8,
 }
 
-/// These frames, each with a stamp, from this one on. What is no whole frame stays as it is.
+/// Returns these frames, each with a stamp, which starts at `next`. Bytes that are no whole frame stay as they are.
 pub fn stamped(alloc: Global, frames: &[u8], next: &mut u8) -> Result<Vec<u8>, AllocError> {
     let mut stamped = Vec::new(alloc);
     let mut rest = frames;
@@ -29,8 +29,8 @@ pub fn stamped(alloc: Global, frames: &[u8], next: &mut u8) -> Result<Vec<u8>, A
     Ok(stamped)
 }
 
-/// What stands between two places of these frames, each with its stamp: of the frames that end behind the first place and
-/// no later than the second, from this one on.
+/// Returns the bytes between two places of these frames. Each frame that ends after the first place and no later than
+/// the second has its stamp, which starts at `next`.
 pub fn stamped_part(
     alloc: Global,
     frames: &[u8],
@@ -49,7 +49,7 @@ pub fn stamped_part(
     Ok(part)
 }
 
-/// How many of these frames end at this place or before it.
+/// Returns how many of these frames end at this place or before it.
 fn ended_at(frames: &[u8], place: usize) -> u8 {
     let mut ended: u8 = 0;
     let mut rest = front(frames, place);
@@ -64,7 +64,7 @@ fn ended_at(frames: &[u8], place: usize) -> u8 {
     ended
 }
 
-/// The length that the first four bytes state.
+/// Returns the length that the first four bytes state.
 fn length_of(frames: &[u8]) -> u32 {
     let mut length: u32 = 0;
     for byte in front(frames, 4) {

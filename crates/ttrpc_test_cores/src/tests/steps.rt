@@ -1,13 +1,14 @@
 //! The steps of either core.
-use crate::tests::script::{Step, Told};
+use crate::tests::script::Step;
 use crate::tests::stamps::{Stamps, stamped, stamped_part};
 use crate::tests::under_test::{Core, End, Met};
 use std::alloc::Global;
-use ttrpc_proto::Error;
-use ttrpc_wire::Text;
+use ttrpc_bench::vectors::Told;
+use ttrpc_proto::{Error, Response};
 use ttrpc_wire::values::slices::{behind, front};
+use ttrpc_wire::{Codec, Text};
 
-/// Whether the step is met.
+/// Does the step. Returns whether it is met.
 pub fn act<C: Core>(alloc: Global, core: &mut C, step: &Step, cut: usize) -> Met {
     match *step {
         Step::Feed(bytes) => feeds(alloc, core, bytes, cut),
@@ -16,6 +17,7 @@ pub fn act<C: Core>(alloc: Global, core: &mut C, step: &Step, cut: usize) -> Met
         Step::FeedToCut(bytes) => feeds(alloc, core, front(bytes, cut), usize::MAX),
         Step::FeedFromCut(bytes) => feeds(alloc, core, behind(bytes, cut), usize::MAX),
         Step::Writes(expected) => Ok(writes(core, expected)),
+        Step::WritesStatus(code, begins) => writes_status(alloc, core, code, begins, b""),
         Step::WritesBehind(expected, n) => Ok(writes(core, behind(expected, n))),
         Step::Lends(room, bytes, from, to) => Ok(lends(core, room, behind(front(bytes, to), from))),
         Step::Lent(count) => Ok(core.lent() == count),
@@ -38,8 +40,8 @@ pub fn act<C: Core>(alloc: Global, core: &mut C, step: &Step, cut: usize) -> Met
     }
 }
 
-/// The same over halves that stamp: frames come and leave with their stamps. Where a frame comes in two pieces, the cut
-/// stands before its stamp.
+/// Does the same over halves that stamp: frames come and leave with their stamps. If a frame comes in two pieces, the
+/// cut is before its stamp.
 pub fn act_stamped<C: Core>(
     alloc: Global,
     core: &mut C,
@@ -74,7 +76,7 @@ pub fn act_stamped<C: Core>(
     }
 }
 
-/// The same of frames that leave, from this stamp on.
+/// Does the same for frames that leave, with stamps from `next` on.
 fn act_leaving<C: Core>(
     alloc: Global,
     core: &mut C,
@@ -87,6 +89,11 @@ fn act_leaving<C: Core>(
             let bytes = stamped(alloc, frames, next)?;
             Ok(writes(core, bytes.as_slice()))
         }
+        Step::WritesStatus(code, begins) => {
+            let stamp = [*next];
+            *next = next.wrapping_add(1);
+            writes_status(alloc, core, code, begins, &stamp)
+        }
         Step::Leaves(frames, from, to) => {
             let bytes = stamped_part(alloc, frames, from, to, next)?;
             Ok(leaves(core, bytes.as_slice()))
@@ -95,7 +102,7 @@ fn act_leaving<C: Core>(
     }
 }
 
-/// Bytes are taken whole, in pieces of this size.
+/// Returns whether the bytes are taken whole, in pieces of this size.
 pub fn feeds<C: End>(alloc: Global, core: &mut C, bytes: &[u8], size: usize) -> Met {
     for piece in bytes.chunks(size.max(1)) {
         if core.feed(alloc, piece)? != piece.len() {
@@ -105,12 +112,13 @@ pub fn feeds<C: End>(alloc: Global, core: &mut C, bytes: &[u8], size: usize) -> 
     Ok(true)
 }
 
-fn feeds_sevens<C: End>(alloc: Global, core: &mut C, length: usize, size: usize) -> Met {
+/// Returns whether `length` bytes 7 are taken, in pieces of this size.
+pub fn feeds_sevens<C: End>(alloc: Global, core: &mut C, length: usize, size: usize) -> Met {
     let sevens = vec![in alloc; 7; length]?;
     feeds(alloc, core, sevens.as_slice(), size)
 }
 
-/// What is still expected behind all that the core has to write, or none where it has other bytes to write.
+/// Returns the expected bytes after all those that the core has to write, or `None` if it has other bytes to write.
 pub fn drained<'a, C: End>(core: &mut C, expected: &'a [u8]) -> Option<&'a [u8]> {
     let mut buffer = [0; 64];
     let mut rest = expected;
@@ -128,15 +136,48 @@ pub fn drained<'a, C: End>(core: &mut C, expected: &'a [u8]) -> Option<&'a [u8]>
     Some(rest)
 }
 
-/// All that is left to be written is this.
-fn writes<C: End>(core: &mut C, expected: &[u8]) -> bool {
+/// Returns whether all unsent bytes are these.
+pub fn writes<C: End>(core: &mut C, expected: &[u8]) -> bool {
     match drained(core, expected) {
         Some(rest) => rest.is_empty(),
         None => false,
     }
 }
 
-/// The first bytes come so many times, and behind each all that is left to be written is the second.
+/// Returns whether all unsent bytes are a response of stream 1 with this code and a message that begins with this text,
+/// and these bytes after it.
+fn writes_status<C: End>(
+    alloc: Global,
+    core: &mut C,
+    code: i32,
+    begins: &str,
+    stamp: &[u8],
+) -> Met {
+    let mut buffer = [0; 256];
+    let count = core.lend(&mut buffer);
+    core.report();
+    let whole = front(&buffer, count);
+    let length = count.saturating_sub(stamp.len());
+    Ok(
+        behind(whole, length) == stamp
+            && answers(alloc, front(whole, length), code, begins)?
+            && writes(core, b""),
+    )
+}
+
+/// Returns whether the frame is a response of stream 1, with this code and a message that begins with this text.
+fn answers(alloc: Global, frame: &[u8], code: i32, begins: &str) -> Met {
+    let [_, _, _, _, 0, 0, 0, 1, 2, 0, payload @ ..] = frame else {
+        return Ok(false);
+    };
+    let response = Response::decode(alloc, payload)?;
+    Ok(match &response.status {
+        Some(status) => status.code == code && status.message.as_str().starts_with(begins),
+        None => false,
+    })
+}
+
+/// Feeds the first bytes `count` times. Returns whether all unsent bytes are the second bytes after each time.
 fn repeats<C: End>(alloc: Global, core: &mut C, bytes: &[u8], expected: &[u8], count: u32) -> Met {
     for _ in 0..count {
         if core.feed(alloc, bytes)? != bytes.len() || !writes(core, expected) {
@@ -146,7 +187,7 @@ fn repeats<C: End>(alloc: Global, core: &mut C, bytes: &[u8], expected: &[u8], c
     Ok(true)
 }
 
-/// A buffer with this room gets these bytes.
+/// Returns whether a buffer with this room gets these bytes.
 pub fn lends<C: End>(core: &mut C, room: usize, expected: &[u8]) -> bool {
     let mut buffer = [0; 64];
     let room = room.min(buffer.len());
@@ -154,14 +195,14 @@ pub fn lends<C: End>(core: &mut C, room: usize, expected: &[u8]) -> bool {
     count == expected.len() && front(&buffer, count) == expected
 }
 
-/// These bytes leave.
+/// Returns whether these bytes leave.
 pub fn leaves<C: End>(core: &mut C, expected: &[u8]) -> bool {
     let lent = lends(core, expected.len(), expected);
     core.report();
     lent
 }
 
-/// So many bytes leave.
+/// Returns whether this number of bytes leaves.
 fn departs<C: End>(alloc: Global, core: &mut C, count: usize) -> Met {
     let mut buffer = vec![in alloc; 0; 65536]?;
     let mut left = count;
@@ -175,7 +216,7 @@ fn departs<C: End>(alloc: Global, core: &mut C, count: usize) -> Met {
     Ok(left == 0)
 }
 
-/// Lends and reports at most so many bytes, and returns how many.
+/// Lends and reports at most `most` bytes, and returns how many.
 fn lends_some<C: End>(core: &mut C, buffer: &mut [u8], most: usize) -> usize {
     let room = most.min(buffer.len());
     let lent = core.lend(&mut buffer[..room]);
@@ -188,7 +229,7 @@ fn fails_by<C: End>(alloc: Global, core: &mut C, text: &str) -> Met {
     Ok(true)
 }
 
-/// The core tells its failure, takes nothing, lends nothing, and is of no use.
+/// Returns whether the core reports its failure, takes nothing, lends nothing, and refuses all use.
 fn has_failed<C: Core>(alloc: Global, core: &mut C, text: &'static str) -> Met {
     let why = Told::Socket(text);
     Ok(
@@ -200,7 +241,8 @@ fn has_failed<C: Core>(alloc: Global, core: &mut C, text: &'static str) -> Met {
     )
 }
 
-/// There is an error, and it is told so, where memory for it wasn't refused: then the test ends with that error.
+/// Returns whether there is an error, and it is the expected one. If memory for it was refused, returns that as the
+/// test's error.
 pub fn tells(error: Option<Error>, why: Told) -> Met {
     match error {
         Some(error) => is_told(error, why),

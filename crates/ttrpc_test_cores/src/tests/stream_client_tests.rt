@@ -1,5 +1,5 @@
-//! Each row of the client's table for streams, the table of what a receiver is given, each refusal in its order, tickets,
-//! and what becomes of streams whose halves are dropped. All bytes are written by hand.
+//! Each row of the client's table for streams, the table of a receiver's results, each refusal in its order, tickets,
+//! and streams with dropped halves. All bytes are written by hand.
 use crate::tests::client::*;
 use crate::tests::clients::{CALLS_FIRST_IN_TIME, OPENS_FIRST, OPENS_SECOND};
 use crate::tests::halves::OpensOnly;
@@ -7,15 +7,16 @@ use crate::tests::kinds::{
     ASYNC_KIND, BOTH_KINDS, PlainClient, SYNC_KIND, SealedClient, StampedClient, SwellingClient,
 };
 use crate::tests::script::Step::*;
-use crate::tests::script::Told::{
-    self, Begins, Eof, LocalClosed, Others, RemoteClosed, Socket, Status,
-};
 use crate::tests::script::{Cuts, FRESH, Row, Start};
 use crate::tests::streams::{
     FLAGGED_ITEM, GONE, LAST_ITEM, OPENED, OPENED_AND_SENT, THREE_OF_THIRD,
 };
-use crate::tests::told::{DISCONNECTED, LONG, LONG_TEXT, PAST, SEALED_UP, UNKNOWN, USED_UP};
+use crate::tests::told::{SEALED_UP, UNKNOWN, USED_UP};
 use crate::tests::under_test::{Table, Tested, hold, hold_stamped};
+use ttrpc_bench::vectors::Told::{
+    self, Begins, Eof, LocalClosed, Others, RemoteClosed, Socket, Status,
+};
+use ttrpc_bench::vectors::{DISCONNECTED, LONG, LONG_TEXT, PAST};
 use ttrpc_client::{ClientCore, ClientKind};
 use ttrpc_secure::Plain;
 
@@ -50,14 +51,14 @@ const SEALED: &[Table<ClientKind>] = &[(SYNC_KIND, SEALED_ROWS)];
 
 const SEALED_ITEMS: &[Table<ClientKind>] = &[(SYNC_KIND, SEALED_ITEM_ROWS)];
 
-// ---- what a client writes
+// ---- frames of a client
 
 /// The request that opens the first stream, to send no items.
 const OPENED_CLOSED: &[u8] = b"\0\0\0\x11\0\0\0\x01\x01\x01\x0a\x09demo.Echo\x12\x04Chat";
-/// With the payload 2a, to send no other item.
+/// The same with the payload 2a, to send no other item.
 const OPENED_WITH_ITEM: &[u8] = b"\
     \0\0\0\x14\0\0\0\x01\x01\x01\x0a\x09demo.Echo\x12\x04Chat\x1a\x01\x2a";
-/// The one of a stream that sends, and the first item.
+/// The request of a stream that sends, and the first item.
 const OPENED_AND_FIRST: &[u8] = b"\
     \0\0\0\x11\0\0\0\x01\x01\x06\x0a\x09demo.Echo\x12\x04Chat\
     \0\0\0\x01\0\0\0\x01\x03\0a";
@@ -67,20 +68,20 @@ const STAMPED_AND_SENT: &[u8] = b"\
     \0\0\0\x02\0\0\0\x01\x03\0a\x01\
     \0\0\0\x01\0\0\0\x01\x03\x05\x02";
 
-// ---- what it is sent under the first id, beside what a call is
+// ---- frames to a client with the first id, besides those of a call
 
-/// The items `a`, none and `b`, and a close.
+/// The item `a`, an empty item, the item `b`, and a close.
 const ITEMS_AND_CLOSE: &[u8] = b"\
     \0\0\0\x01\0\0\0\x01\x03\0a\
     \0\0\0\0\0\0\0\x01\x03\0\
     \0\0\0\x01\0\0\0\x01\x03\0b\
     \0\0\0\0\0\0\0\x01\x03\x05";
-/// A frame of no type.
+/// A frame of an unknown type.
 const NO_TYPE: &[u8] = b"\0\0\0\0\0\0\0\x01\0\0";
-/// The item `y` under the third id.
+/// The item `y` with the third id.
 const ITEM_OF_THIRD: &[u8] = b"\0\0\0\x01\0\0\0\x03\x03\0y";
 
-// ---- what is told
+// ---- errors
 
 const NOT_SENDABLE: Told = Others("stream is not sendable");
 
@@ -97,7 +98,7 @@ const OPEN_ROWS: &[Row] = &[
     Row { name: "a stream that sends none is opened closed", steps: &[Opens(false, true, b"", 1), Writes(OPENED_CLOSED), RefusesSending(1, NOT_SENDABLE)], ..FRESH },
     Row { name: "its request may carry its one item", steps: &[Opens(false, true, b"\x2a", 1), Writes(OPENED_WITH_ITEM)], ..FRESH },
     Row { name: "a stream that sends items is refused with a payload, and uses no id", steps: &[RefusesStream(true, b"\x01", WITH_PAYLOAD), Writes(b""), CALLS_FIRST_IN_TIME, Writes(ASKED)], ..FRESH },
-    Row { name: "calls and streams have ids of one row", steps: &[CALLS_FIRST_IN_TIME, OPENS_SECOND, Calls(10, 0, 5), Opens(false, false, b"", 7), Waits(3), DropsCall(3), ReceivesNone(3), ReceivesError(1, UNKNOWN), RefusesSending(1, UNKNOWN), DropsReceiver(1), DropsSender(1), Feed(ITEM_OF_THIRD), Receives(3, b"y"), Waits(1), Feed(ANSWERED), Gives(1, true, 0x2a), IsAlive], ..FRESH },
+    Row { name: "calls and streams have ids of one row", steps: &[CALLS_FIRST_IN_TIME, OPENS_SECOND, Calls(10, 0, 5), Opens(false, false, b"", 7), Waits(3), DropsCall(3), ReceivesNone(3), ReceivesError(1, UNKNOWN), RefusesSending(1, UNKNOWN), DropsReceiver(1), DropsSender(1), Feed(ITEM_OF_THIRD), Receives(3, b"y"), Waits(1), Feed(ANSWERED), Gives(1, true, b"\x2a"), IsAlive], ..FRESH },
     Row { name: "the last id may be a stream's", start: Start::AtLastId, steps: &[Opens(true, true, b"", 4294967295), RefusesStream(true, b"\x01", WITH_PAYLOAD), RefusesStream(true, b"", USED_UP), RefusesCall(USED_UP), ReceivesNone(4294967295)], ..FRESH },
     Row { name: "that a request is too long is told before that it has a payload, and a failure before both", steps: &[RefusesStreamOfSevens(4194294, LONG), EndsInput, RefusesStreamOfSevens(4194294, DISCONNECTED), RefusesStream(true, b"\x01", DISCONNECTED)], ..FRESH },
 ];
@@ -226,7 +227,7 @@ const LONG_ROWS: &[Row] = &[Row {
 
 // ---- over other halves
 
-/// A stamped item, an item with a bad stamp, and an item of the third stream with the next one.
+/// A stamped item, an item with a bad stamp, and an item of the third stream with the next stamp.
 const STAMPED_ITEMS: &[u8] = b"\
     \0\0\0\x02\0\0\0\x01\x03\0a\0\
     \0\0\0\x02\0\0\0\x01\x03\0b\x07\
@@ -303,7 +304,7 @@ const SEALED_ITEM_ROWS: &[Row] = &[Row {
     ..FRESH
 }];
 
-// ---- what holds over halves that stamp, too
+// ---- tables that hold over halves that stamp, too
 
 #[test]
 fn streams_are_opened(rt: HostRuntime) -> Tested {
@@ -355,7 +356,7 @@ fn stamped_oversized_frames_break_their_streams(rt: HostRuntime) -> Tested {
     hold_stamped::<StampedClient>(&rt, rt.alloc(), OVERLONG)
 }
 
-// ---- what holds over one kind of halves
+// ---- tables that hold over one kind of halves
 
 #[test]
 fn streams_send_what_is_greatest_and_in_parts(rt: HostRuntime) -> Tested {

@@ -1,4 +1,4 @@
-//! Many streams of a server at once.
+//! Many streams of a server at the same time.
 use crate::tests::steps::leaves;
 use crate::tests::stream_job_steps::{ends, takes_stream};
 use crate::tests::stream_numbers::CHAT;
@@ -6,13 +6,14 @@ use crate::tests::stream_steps::receives;
 use crate::tests::under_test::{End, Met, Server};
 use std::alloc::Global;
 
-/// The stream's id of a job.
+/// Returns the stream id of a job.
 fn stream_of(job: u32) -> u32 {
     job.wrapping_mul(2).wrapping_sub(1)
 }
 
-/// So many streams are opened, of the jobs from 1 on, and taken. An item comes for each, the last first, which is told by
-/// rising number. They are received and ended, the last first.
+/// Returns whether `count` streams work that are opened for the jobs from 1 on, and taken. An item comes for each, the
+/// last first, and the events are reported by rising number. The items are received and the streams are ended, the last
+/// first.
 pub fn stream_jobs_last_first<S: Server>(alloc: Global, core: &mut S, count: u32) -> Met {
     Ok(
         opens_each(alloc, core, count)?

@@ -1,19 +1,20 @@
 //! The steps of a server's streams.
-use crate::tests::script::{Step, Told};
+use crate::tests::script::Step;
 use crate::tests::server_steps::{ok_response, status_of};
 use crate::tests::steps::tells;
 use crate::tests::stream_job_numbers::stream_jobs_last_first;
 use crate::tests::stream_steps::item_step;
 use crate::tests::under_test::{Met, Server};
 use std::alloc::Global;
+use ttrpc_bench::vectors::Told;
 use ttrpc_proto::{Error, Response};
 use ttrpc_server::JobId;
 use ttrpc_wire::Blob;
 
-/// How a handler ends its stream.
+/// The result with which a handler ends its stream.
 pub type End = Result<Option<Response>, Error>;
 
-/// A step of a stream's job.
+/// Does a step of a stream's job. Returns whether it is met.
 pub fn stream_job_step<S: Server>(alloc: Global, core: &mut S, step: &Step) -> Met {
     match *step {
         Step::TakesStream(id, stream) => Ok(takes_stream(core, id, stream)),
@@ -28,7 +29,7 @@ pub fn stream_job_step<S: Server>(alloc: Global, core: &mut S, step: &Step) -> M
     }
 }
 
-/// The job that is handed out is a stream's, and has no payload.
+/// Returns whether the job that is handed out is a stream's with this id and this stream, and has no payload.
 pub fn takes_stream<S: Server>(core: &mut S, id: JobId, stream: u32) -> bool {
     match core.take_job() {
         Some(job) => {
@@ -41,7 +42,7 @@ pub fn takes_stream<S: Server>(core: &mut S, id: JobId, stream: u32) -> bool {
     }
 }
 
-/// The stream ends by a response with this payload.
+/// Ends the stream with a response with this payload.
 fn ends_with<S: Server>(alloc: Global, core: &mut S, id: JobId, payload: &[u8]) -> Met {
     let payload = Blob::from_slice(alloc, payload)?;
     ends(alloc, core, id, &Ok(Some(ok_response(alloc, payload))))
@@ -52,7 +53,7 @@ fn ends_with_sevens<S: Server>(alloc: Global, core: &mut S, id: JobId, length: u
     ends(alloc, core, id, &Ok(Some(ok_response(alloc, payload))))
 }
 
-/// The stream ends by a response with a status of this code and message, and no payload.
+/// Ends the stream with a response with a status with this code and message, and no payload.
 fn ends_by<S: Server>(alloc: Global, core: &mut S, id: JobId, code: i32, message: &str) -> Met {
     let response = Response {
         status: Some(status_of(alloc, code, message)?),
@@ -61,13 +62,13 @@ fn ends_by<S: Server>(alloc: Global, core: &mut S, id: JobId, code: i32, message
     ends(alloc, core, id, &Ok(Some(response)))
 }
 
-/// The stream ends so.
+/// Ends the stream with this result.
 pub fn ends<S: Server>(alloc: Global, core: &mut S, id: JobId, end: &End) -> Met {
     core.end_stream(alloc, id, end)?;
     Ok(true)
 }
 
-/// Each end of a stream is refused so: none, a response and an error.
+/// Returns whether each end of a stream is refused with this error: no response, a response and an error.
 fn refuses_end<S: Server>(alloc: Global, core: &mut S, id: JobId, why: Told) -> Met {
     let response = ok_response(alloc, Blob::new(alloc));
     Ok(

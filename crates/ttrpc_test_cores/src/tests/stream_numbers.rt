@@ -1,4 +1,4 @@
-//! Many items and frames of a stream, and many streams of a client, at once.
+//! Many items and frames of a stream, and many streams of a client, at the same time.
 use crate::tests::client_numbers::{id_of, requests_leave};
 use crate::tests::client_steps::stream_request;
 use crate::tests::steps::leaves;
@@ -6,10 +6,10 @@ use crate::tests::stream_steps::receives;
 use crate::tests::under_test::{Items, Met, Streaming};
 use std::alloc::Global;
 
-/// The request of a stream, without its header.
+/// The payload of the request that opens a stream.
 pub const CHAT: &[u8] = b"\x0a\x09demo.Echo\x12\x04Chat";
 
-/// So many items come for the stream of this id, each one byte, which rises and starts again. Nobody asks.
+/// Feeds `count` items for the stream with this id, each of one byte, which rises and starts again. None is received.
 pub fn items_come<C: Items>(alloc: Global, core: &mut C, id: u32, count: u32) -> Met {
     let [a, b, c, d] = id.to_be_bytes();
     for number in 0..count {
@@ -19,7 +19,7 @@ pub fn items_come<C: Items>(alloc: Global, core: &mut C, id: u32, count: u32) ->
     Ok(true)
 }
 
-/// So many items are received of those that came, in order.
+/// Returns whether `count` of the items that came are received, in order.
 pub fn receives_each<C: Items>(alloc: Global, core: &mut C, id: u32, count: u32) -> Met {
     for number in 0..count {
         let [_, _, _, item] = number.to_be_bytes();
@@ -30,8 +30,8 @@ pub fn receives_each<C: Items>(alloc: Global, core: &mut C, id: u32, count: u32)
     Ok(true)
 }
 
-/// So many streams are opened, and their requests leave. An item comes for each, the last first, which is told, and they
-/// are received, the last first.
+/// Returns whether `count` streams work that are opened, with their requests written. An item comes for each, the last
+/// first, and the events are reported. The items are received, the last first.
 pub fn streams_last_first<C: Streaming>(alloc: Global, core: &mut C, count: u32) -> Met {
     Ok(
         opens_each(alloc, core, count)?
@@ -60,7 +60,7 @@ fn answers_last_first<C: Streaming>(alloc: Global, core: &mut C, count: u32) -> 
     Ok(true)
 }
 
-/// They are told of by rising id.
+/// Returns whether the events are reported by rising id.
 fn hears_each<C: Streaming>(core: &mut C, count: u32) -> bool {
     for number in 0..count {
         if core.next_heard() != Some(id_of(number)) {
@@ -81,8 +81,8 @@ fn receives_last_first<C: Streaming>(alloc: Global, core: &mut C, count: u32) ->
     Ok(true)
 }
 
-/// So many items are sent on the stream of this id, the first ones of its connection, and each is asked about before all
-/// leave, and as it leaves.
+/// Returns whether `count` items are sent on the stream with this id, as the first ones of its connection. Each item's
+/// ticket is checked before all of them leave, and as it leaves.
 pub fn sends_each<C: Items>(alloc: Global, core: &mut C, id: u32, count: u32) -> Met {
     Ok(queues_each(alloc, core, id, count)? && sent_each(alloc, core, id, count))
 }

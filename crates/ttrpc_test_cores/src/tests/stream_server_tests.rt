@@ -1,21 +1,22 @@
-//! Each row of the server's table for streams, the table of what a receiver is given, each refusal in its order, tickets,
-//! and what becomes of streams that end or whose receiver is dropped. All bytes are written by hand; the bare request is as a
-//! client written in Go sends it.
+//! Each row of the server's table for streams, the table of a receiver's results, each refusal in its order, tickets,
+//! and streams that end or have a dropped receiver. All bytes are written by hand. The bare request is as a client
+//! written in Go sends it.
 use crate::server::{ASKED, ECHOED, NO_STREAM_ANSWER};
 use crate::tests::client::{CLOSE, CLOSE_WITH_DATA, DATA};
 use crate::tests::kinds::{
     ASYNC_RULES, PlainServer, SYNC_RULES, SealedServer, StampedServer, SwellingServer,
 };
 use crate::tests::script::Step::*;
-use crate::tests::script::Told::{self, Eof, LocalClosed, Others, RemoteClosed, Socket};
 use crate::tests::script::{Cuts, FRESH, Row, Start};
 use crate::tests::servers::{ANSWERS_FIRST, EOF_ANSWER, LONG_ANSWER, TAKES_FIRST};
 use crate::tests::streams::{
     FLAGGED_ITEM, GONE, IN_USE, INACTIVE, LAST_ITEM, NOT_ABOVE, OPENED, OPENED_AND_SENT,
     OPENED_THIRD, THREE_OF_THIRD, TWO_ITEMS,
 };
-use crate::tests::told::{DISCONNECTED, LONG, OTHER_RULES, PAST, SEALED_UP, UNKNOWN, UNKNOWN_JOB};
+use crate::tests::told::{OTHER_RULES, SEALED_UP, UNKNOWN, UNKNOWN_JOB};
 use crate::tests::under_test::{Table, Tested, hold, hold_stamped};
+use ttrpc_bench::vectors::Told::{self, Eof, LocalClosed, Others, RemoteClosed, Socket};
+use ttrpc_bench::vectors::{DISCONNECTED, LONG, PAST};
 use ttrpc_server::Rules;
 
 const OPENINGS: &[Table<Rules>] = &[(ASYNC_RULES, OPEN_ROWS)];
@@ -46,39 +47,39 @@ const SWELLING: &[Table<Rules>] = &[(ASYNC_RULES, SWELLING_ROWS)];
 
 const SEALED: &[Table<Rules>] = &[(ASYNC_RULES, SEALED_ROWS)];
 
-// ---- what a server is sent under the first id, beside what a client is
+// ---- frames to a server with the first id, besides those to a client
 
-/// Without flags, with the payload 2a.
+/// A request without flags, with the payload 2a.
 const PLAIN_ITEM: &[u8] = b"\0\0\0\x14\0\0\0\x01\x01\0\x0a\x09demo.Echo\x12\x04Chat\x1a\x01\x2a";
-/// Without flags and payload.
+/// A request without flags and payload.
 const PLAIN: &[u8] = b"\0\0\0\x11\0\0\0\x01\x01\0\x0a\x09demo.Echo\x12\x04Chat";
-/// With the flag of the last item, and the payload 2a.
+/// A request with the flag of the last item, and the payload 2a.
 const ONLY_ITEM: &[u8] = b"\0\0\0\x14\0\0\0\x01\x01\x01\x0a\x09demo.Echo\x12\x04Chat\x1a\x01\x2a";
 /// The same without a payload.
 const ONLY: &[u8] = b"\0\0\0\x11\0\0\0\x01\x01\x01\x0a\x09demo.Echo\x12\x04Chat";
-/// With the flag that says that it is no item, and a payload all the same.
+/// A request with the flag that it is no item, but with a payload.
 const NO_ITEM: &[u8] = b"\0\0\0\x14\0\0\0\x01\x01\x04\x0a\x09demo.Echo\x12\x04Chat\x1a\x01\x2a";
-/// With the flags of a close.
+/// A request with the flags of a close.
 const CLOSED: &[u8] = b"\0\0\0\x11\0\0\0\x01\x01\x05\x0a\x09demo.Echo\x12\x04Chat";
-/// With those and a payload.
+/// The same with a payload.
 const CLOSED_WITH_ITEM: &[u8] = b"\
     \0\0\0\x14\0\0\0\x01\x01\x05\x0a\x09demo.Echo\x12\x04Chat\x1a\x01\x2a";
-/// With the flag that other items come and no other, and no payload.
+/// A request with the flag that other items follow and no other flag, and without a payload.
 const BARE: &[u8] = b"\0\0\0\x11\0\0\0\x01\x01\x02\x0a\x09demo.Echo\x12\x04Chat";
-/// With that and the flag of the last item.
+/// The same with the flag of the last item, too.
 const BARE_ONLY: &[u8] = b"\0\0\0\x11\0\0\0\x01\x01\x03\x0a\x09demo.Echo\x12\x04Chat";
-/// With that flag and the payload 2a.
+/// The same as `BARE`, with the payload 2a.
 const BARE_ITEM: &[u8] = b"\0\0\0\x14\0\0\0\x01\x01\x02\x0a\x09demo.Echo\x12\x04Chat\x1a\x01\x2a";
-/// With a timeout of ten nanoseconds.
+/// A request with a timeout of ten nanoseconds.
 const TIMED: &[u8] = b"\0\0\0\x13\0\0\0\x01\x01\x06\x0a\x09demo.Echo\x12\x04Chat\x20\x0a";
-/// The header of data that are one byte too long.
+/// The header of data that is one byte too long.
 const OVERSIZED_DATA: &[u8] = b"\0\x40\0\x01\0\0\0\x01\x03\0";
-/// A response and a frame of no type under the first id.
+/// A response and a frame of an unknown type with the first id.
 const OTHER_TYPES: &[u8] = b"\0\0\0\x02\0\0\0\x01\x02\0\x0a\0\0\0\0\0\0\0\0\x01\0\0";
 
-// ---- what it writes
+// ---- frames of a server
 
-// ---- what is told
+// ---- errors
 
 const CLOSE_HAS_DATA: Told = Others("stream 1: close message cannot include data");
 
@@ -253,7 +254,7 @@ const SEALED_ROWS: &[Row] = &[
     Row { name: "an item above the safe limit is refused before it is sealed", start: Start::Room(1), steps: &[Feed(OPENED), RefusesSevensOn(1, 2, SHORT_ITEM_ABOVE_LIMIT), RefusesItem(1, SEALED_UP)], ..FRESH },
 ];
 
-// ---- what holds over halves that stamp, too
+// ---- tables that hold over halves that stamp, too
 
 #[test]
 fn streams_are_opened(rt: HostRuntime) -> Tested {
@@ -315,7 +316,7 @@ fn stamped_oversized_frames_leave_their_streams(rt: HostRuntime) -> Tested {
     hold_stamped::<StampedServer>(&rt, rt.alloc(), OVERLONG)
 }
 
-// ---- what holds over one kind of halves
+// ---- tables that hold over one kind of halves
 
 #[test]
 fn streams_send_what_is_greatest(rt: HostRuntime) -> Tested {

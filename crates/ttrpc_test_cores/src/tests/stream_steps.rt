@@ -1,15 +1,16 @@
 //! The steps of streams.
 use crate::tests::client_steps::{request_of_sevens, stream_request};
-use crate::tests::script::{Step, Told};
+use crate::tests::script::Step;
 use crate::tests::steps::tells;
 use crate::tests::stream_numbers::{items_come, receives_each, sends_each, streams_last_first};
 use crate::tests::under_test::{Items, Met, Streaming};
 use std::alloc::Global;
 use std::test::Fail;
+use ttrpc_bench::vectors::Told;
 use ttrpc_client::{StreamId, Ticket};
 use ttrpc_proto::Request;
 
-/// A step that only a client with streams knows.
+/// Does a step that only a client with streams has. Returns whether it is met.
 pub fn stream_step<C: Streaming>(alloc: Global, core: &mut C, step: &Step) -> Met {
     match *step {
         Step::Opens(sends, receives, payload, id) => {
@@ -35,7 +36,7 @@ pub fn stream_step<C: Streaming>(alloc: Global, core: &mut C, step: &Step) -> Me
     }
 }
 
-/// A step of a stream at either core.
+/// Does a step of a stream at either core. Returns whether it is met.
 pub fn item_step<C: Items>(alloc: Global, core: &mut C, step: &Step) -> Met {
     match *step {
         Step::NextHeard(id) => Ok(core.next_heard() == id),
@@ -55,7 +56,7 @@ pub fn item_step<C: Items>(alloc: Global, core: &mut C, step: &Step) -> Met {
     }
 }
 
-/// A step that receives.
+/// Does a step that receives. Returns whether it is met.
 fn receive_step<C: Items>(alloc: Global, core: &mut C, step: &Step) -> Met {
     match *step {
         Step::Receives(id, item) => receives(alloc, core, id, item),
@@ -67,7 +68,7 @@ fn receive_step<C: Items>(alloc: Global, core: &mut C, step: &Step) -> Met {
     }
 }
 
-/// A stream is opened.
+/// Opens a stream. Returns whether its id is right.
 fn opens<C: Streaming>(
     alloc: Global,
     core: &mut C,
@@ -80,7 +81,7 @@ fn opens<C: Streaming>(
     Ok(id)
 }
 
-/// The stream is refused so, and so again.
+/// Returns whether the stream is refused with this error, twice.
 fn refuses_stream<C: Streaming>(
     alloc: Global,
     core: &mut C,
@@ -105,7 +106,7 @@ fn sends_sevens<C: Items>(
     Ok(core.send(alloc, id, sevens.as_slice())? == ticket)
 }
 
-/// To send an item, and to close the stream, is refused so, and so again.
+/// Returns whether sending an item, and closing the stream, is refused with this error, twice.
 fn refuses_sending<C: Streaming>(alloc: Global, core: &mut C, id: StreamId, why: Told) -> Met {
     Ok(
         tells(core.send(alloc, id, &[1]).err(), why)?
@@ -114,7 +115,7 @@ fn refuses_sending<C: Streaming>(alloc: Global, core: &mut C, id: StreamId, why:
     )
 }
 
-/// To send an item is refused so, and so again.
+/// Returns whether sending an item is refused with this error, twice.
 fn refuses_item<C: Items>(alloc: Global, core: &mut C, id: u32, why: Told) -> Met {
     Ok(
         tells(core.send(alloc, id, &[1]).err(), why)?
@@ -143,7 +144,7 @@ fn is_never_sent<C: Items>(alloc: Global, core: &mut C, ticket: Ticket, why: Tol
     }
 }
 
-/// The next item is this one. Where memory was refused, the test ends with that error.
+/// Returns whether the next item is this one. If memory was refused, returns that as the test's error.
 pub fn receives<C: Items>(alloc: Global, core: &mut C, id: u32, item: &[u8]) -> Met {
     match core.recv(alloc, id) {
         None => Ok(false),
@@ -152,7 +153,7 @@ pub fn receives<C: Items>(alloc: Global, core: &mut C, id: u32, item: &[u8]) -> 
     }
 }
 
-/// In place of an item this error comes.
+/// Returns whether this error comes instead of an item.
 pub fn receives_error<C: Items>(alloc: Global, core: &mut C, id: u32, why: Told) -> Met {
     match core.recv(alloc, id) {
         None | Some(Ok(_)) => Ok(false),

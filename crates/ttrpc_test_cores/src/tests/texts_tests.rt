@@ -1,11 +1,11 @@
-//! Each answer that a core gives by itself, and each error that it tells, with its text.
-use crate::tests::script::Told;
+//! Each answer that a core gives by itself, and each of its errors, with its text.
 use crate::tests::steps::tells;
 use crate::tests::under_test::Tested;
 use std::alloc::{AllocError, Global};
 use std::io::ErrorKind;
 use std::process::Abort;
 use std::test::Fail;
+use ttrpc_bench::vectors::Told;
 use ttrpc_connection::Failure;
 use ttrpc_proto::{Error, Response};
 use ttrpc_secure::context::errors::{unsafe_payload_error, unsealed_error};
@@ -17,14 +17,14 @@ use ttrpc_wire::{CodecError, Text};
 
 // ---- failures
 
-/// The error is told so.
+/// Checks that the error is the expected one.
 fn is(rt: &impl Abort, error: Error, told: Told) -> Tested {
     let met = tells(Some(error), told)?;
     assert!(rt; met);
     Ok(())
 }
 
-/// The failure tells this error.
+/// Checks that the failure gives this error.
 fn fails(rt: &impl Abort, alloc: Global, failure: Failure, told: Told) -> Tested {
     is(rt, failure.error(alloc), told)
 }
@@ -72,6 +72,8 @@ fn told_errors_are_told_again(rt: HostRuntime) -> Tested {
     fails(&rt, alloc, Failure::Told(broken), Told::Socket("broken"))?;
     let long = Error::Others(text(alloc, "too long")?);
     fails(&rt, alloc, Failure::Told(long), Told::Others("too long"))?;
+    let pipe = Failure::Broke(ErrorKind::BrokenPipe);
+    fails(&rt, alloc, pipe, Told::Socket("broken pipe"))?;
     let system = Failure::Told(Error::Nix(ErrorKind::BrokenPipe)).error(alloc);
     assert!(rt; matches!(system, Error::Nix(ErrorKind::BrokenPipe)));
     Ok(())
@@ -79,7 +81,7 @@ fn told_errors_are_told_again(rt: HostRuntime) -> Tested {
 
 // ---- answers
 
-/// The response has a status of this code and message, with no details, and no payload.
+/// Returns whether the response has a status with this code and message, no details, and no payload.
 fn has_status(response: &Response, code: i32, message: &str) -> bool {
     match &response.status {
         Some(status) => {
@@ -92,7 +94,7 @@ fn has_status(response: &Response, code: i32, message: &str) -> bool {
     }
 }
 
-/// The response is made, and has that status.
+/// Checks that the response was made, and has that status.
 fn answers(
     rt: &impl Abort,
     response: Result<Response, AllocError>,

@@ -2,13 +2,13 @@
 use crate::server::{ASKED, NO_SERVICE};
 use crate::tests::kinds::{SYNC_RULES, SealedServer, StampedServer, SwellingServer};
 use crate::tests::script::Step::*;
-use crate::tests::script::Told::Others;
 use crate::tests::script::{FRESH, Row, Start};
 use crate::tests::servers::{
     ABOVE_LIMIT_ROWS, BAD_STAMP_FIRST, LONG_ANSWER, STAMPED, STAMPED_ECHOED, TAKES_FIRST,
 };
 use crate::tests::told::SEALED_UP;
 use crate::tests::under_test::{Table, Tested, hold};
+use ttrpc_bench::vectors::Told::Others;
 use ttrpc_server::Rules;
 
 const STAMPS: &[Table<Rules>] = &[(SYNC_RULES, STAMP_ROWS), (SYNC_RULES, ABOVE_LIMIT_ROWS)];
@@ -17,16 +17,16 @@ const SWELLING: &[Table<Rules>] = &[(SYNC_RULES, SWELLING_ROWS)];
 
 const SEALED: &[Table<Rules>] = &[(SYNC_RULES, SEALED_ROWS)];
 
-/// A service that isn't there, under stream 2.
+/// A request of stream 2 to an unknown service.
 const STAMPED_UNKNOWN: &[u8] = b"\0\0\0\x07\0\0\0\x02\x01\0\x0a\x01x\x12\x01y\0";
 
 const STAMPED_ANSWER: &[u8] = b"\
     \0\0\0\x1a\0\0\0\x02\x02\0\x0a\x17\x08\x03\x12\x13/x/y does not exist\0";
-/// A frame of data, and the request behind it: both pass the inbound half.
+/// A frame of data, and the request after it: both pass the inbound half.
 const STAMPED_BEHIND_DATA: &[u8] = b"\
     \0\0\0\x02\0\0\0\x01\x03\0z\0\
     \0\0\0\x15\0\0\0\x01\x01\0\x0a\x09demo.Echo\x12\x04Echo\x1a\x01\x2a\x01";
-/// What answers the request with a bad stamp, and the same with the right one.
+/// The answer to the request with a bad stamp, and the answer to the one with the right stamp.
 const BAD_STAMP_ANSWERS: &[u8] = b"\
     \0\0\0\x35\0\0\0\x01\x02\0\
     \x0a\x32\x08\x02\x12\x2ettrpc err: transform_inbound failed: bad stamp\0\

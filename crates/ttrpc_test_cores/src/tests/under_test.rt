@@ -1,4 +1,4 @@
-//! Either core, as scripts see it, and how scripts are run.
+//! Either core, as scripts see it, and the runs of scripts.
 use crate::tests::script::{Cuts, Row, Start, Step};
 use crate::tests::stamps::Stamps;
 use crate::tests::steps::{act, act_stamped};
@@ -10,16 +10,16 @@ use ttrpc_proto::{Error, Request, Response};
 use ttrpc_server::{Job, JobId};
 use ttrpc_wire::Blob;
 
-/// Nothing, or why a test ended.
+/// Nothing, or the reason why a test ended.
 pub type Tested = Result<(), Fail>;
 
-/// Whether a step was met, or why a test ended before.
+/// True if a step was met, or the reason why a test ended before.
 pub type Met = Result<bool, Fail>;
 
-/// The id of a stream that was opened, or why none was.
+/// The id of a stream that was opened, or the error.
 pub type Opened = Result<StreamId, Error>;
 
-/// What either core does as one end of a connection.
+/// The calls of either core as one end of a connection.
 pub trait End {
     fn feed(&mut self, alloc: Global, piece: &[u8]) -> Result<usize, Error>;
 
@@ -27,7 +27,7 @@ pub trait End {
 
     fn lent(&self) -> usize;
 
-    /// All that was lent was written.
+    /// Reports all lent bytes as written.
     fn report(&mut self);
 
     fn end_of_input(&mut self);
@@ -39,7 +39,7 @@ pub trait End {
     fn at_boundary(&self) -> bool;
 }
 
-/// What either core does on streams, under their ids at a client and under those of their jobs at a server.
+/// The calls of either core on streams. A client's streams have their own ids, and a server's have those of their jobs.
 pub trait Items: End {
     fn send(&mut self, alloc: Global, id: u32, item: &[u8]) -> Result<Ticket, Error>;
 
@@ -52,7 +52,7 @@ pub trait Items: End {
     fn next_heard(&mut self) -> Option<u32>;
 }
 
-/// What a server does beside.
+/// The other calls of a server.
 pub trait Server: Items {
     fn feed_at(&mut self, alloc: Global, piece: &[u8], now: u64) -> Result<usize, Error>;
 
@@ -95,7 +95,7 @@ pub trait Server: Items {
     fn drain(&mut self);
 }
 
-/// What a client does beside.
+/// The other calls of a client.
 pub trait Client: End {
     fn request(&mut self, alloc: Global, request: &Request, now: u64) -> Result<CallId, Error>;
 
@@ -110,7 +110,7 @@ pub trait Client: End {
     fn next_deadline(&self) -> Option<u64>;
 }
 
-/// What it does on streams beside.
+/// The other calls of a client on streams.
 pub trait Streaming: Client + Items {
     fn new_stream(&mut self, alloc: Global, request: &Request, sends: bool, hears: bool) -> Opened;
 
@@ -121,41 +121,41 @@ pub trait Streaming: Client + Items {
 
 /// Either core.
 pub trait Core: End + Sized + Drop {
-    /// In which kinds there is such a core.
+    /// The kinds of such a core.
     type Kind: Copy;
 
     fn start(alloc: Global, kind: Self::Kind, start: Start) -> Result<Self, Fail>;
 
-    /// How the core refuses to be used, where it does: none where it doesn't.
+    /// Returns the error with which the core refuses to be used, or `None` if it doesn't.
     fn refusal(&mut self, alloc: Global) -> Result<Option<Error>, Fail>;
 
-    /// Takes the first bytes in pieces of this size; behind each, each job is answered with its own payload, and what is
-    /// written then is the second bytes. A core without jobs serves nothing.
+    /// Takes the first bytes in pieces of this size. After each piece each job is answered with its own payload, and
+    /// the second bytes are written then. A core without jobs serves nothing.
     fn serves(&mut self, alloc: Global, bytes: &[u8], size: usize, expected: &[u8]) -> Met;
 
-    /// Takes these bytes at this moment in pieces of this size. A core that isn't fed at a moment takes none.
+    /// Takes these bytes at this moment, in pieces of this size. A core that isn't fed with a moment takes none.
     fn feeds_at(&mut self, alloc: Global, bytes: &[u8], now: u64, size: usize) -> Met;
 
-    /// A step that only this core knows.
+    /// Does a step that only this core has. Returns whether it is met.
     fn own_step(&mut self, alloc: Global, step: &Step, cut: usize) -> Met;
 }
 
-/// Kinds of a core, and what holds of each of them.
+/// Kinds of a core, and the rows that hold for each of them.
 pub type Table<K> = (&'static [K], &'static [Row]);
 
-/// How frames go over the wire.
+/// The form of frames on the wire.
 #[derive(Clone, Copy, PartialEq, Eq)]
-enum Form {
+pub enum Form {
     AsTheyStand,
     Stamped,
 }
 
-/// Each table holds.
+/// Checks that each table holds.
 pub fn hold<C: Core>(rt: &impl Abort, alloc: Global, tables: &[Table<C::Kind>]) -> Tested {
     hold_as::<C>(rt, alloc, tables, Form::AsTheyStand)
 }
 
-/// Each table holds over halves that stamp, where its frames come and leave with their stamps.
+/// Checks that each table holds over halves that stamp. Its frames come and leave with their stamps.
 pub fn hold_stamped<C: Core>(rt: &impl Abort, alloc: Global, tables: &[Table<C::Kind>]) -> Tested {
     hold_as::<C>(rt, alloc, tables, Form::Stamped)
 }
@@ -176,7 +176,7 @@ fn hold_as<C: Core>(
     Ok(())
 }
 
-/// The row holds in all its cuts.
+/// Checks that the row holds in all its cuts.
 fn holds<C: Core>(rt: &impl Abort, alloc: Global, kind: C::Kind, row: &Row, form: Form) -> Tested {
     match row.cuts {
         Cuts::Whole => holds_at::<C>(rt, alloc, kind, row, usize::MAX, form),
@@ -193,7 +193,7 @@ fn holds<C: Core>(rt: &impl Abort, alloc: Global, kind: C::Kind, row: &Row, form
     }
 }
 
-/// The row holds of a new core, at this cut.
+/// Checks that the row holds for a new core, at this cut.
 fn holds_at<C: Core>(
     rt: &impl Abort,
     alloc: Global,
@@ -230,7 +230,7 @@ fn first_unmet<C: Core>(
     Ok(None)
 }
 
-/// The same over halves that stamp.
+/// Returns the same over halves that stamp.
 fn first_unmet_stamped<C: Core>(
     alloc: Global,
     core: &mut C,
