@@ -1,14 +1,15 @@
--- What tests are told of the halves that mask. Their bytes are tested.
+-- The contracts of the halves that mask. Their bytes are tested, not specified.
 -- Source: this project's.
 use Rattle.std.specs.Prelude.{◌≡◌, ◌+◌, ◌≤◌, ℕ, Bool, true, false, length}
 use Rattle.ttrpc_secure.specs.Halves.{Moves, Refusals}
 
--- How much longer a packet is at most, of a half that binds or doesn't: its head, and a byte that makes the length even.
+-- The number of bytes that a packet is longer at most, for a half that binds or doesn't: its head, and a byte that
+-- makes the length even.
 abbrev pub overhead_of : Bool → ℕ
 overhead_of true = 9
 overhead_of false = 7
 
--- A packet is at most so many bytes longer than the data, and the half stays as it is.
+-- A packet is at most `overhead` bytes longer than the data, and the half stays as it is.
 abbrev pub Lengthens : ℕ → {S : Type 0} → Moves S
 Lengthens overhead s plain aad sealed t = (length sealed ≤ length plain + overhead) × (t ≡ s)
 
@@ -16,6 +17,6 @@ Lengthens overhead s plain aad sealed t = (length sealed ≤ length plain + over
 abbrev pub Stays : {S : Type 0} → Moves S
 Stays s sealed aad plain t = t ≡ s
 
--- Whatever is given may be refused, for any reason.
+-- Any bytes may be refused, for any reason.
 abbrev pub RefusesAnything : {S : Type 0} → Refusals S
 RefusesAnything s given aad why = Unit {0}

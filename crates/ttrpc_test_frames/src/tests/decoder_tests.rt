@@ -1,4 +1,4 @@
-//! Frames out of bytes that were cut in all ways.
+//! Frames from bytes that were cut in all ways.
 use crate::tests::rows::{FrameRow, message_of};
 use std::alloc::Global;
 use std::test::Fail;
@@ -8,19 +8,19 @@ use ttrpc_proto::{
 };
 use ttrpc_wire::{Blob, TryClone};
 
-/// A request of twenty bytes, a frame that closes stream 1, two bytes of data on stream 3, and the front of
-/// another frame.
+/// A request of twenty bytes, a frame that closes stream 1, two bytes of data on stream 3, and the front of another
+/// frame.
 const STREAM: &[u8] =
     b"\0\0\0\x14\0\0\0\x01\x01\0\x0a\x09demo.Echo\x12\x04Echo\x1a\x01\x2a\0\0\0\0\0\0\0\x01\x03\x05\0\0\0\x02\0\0\0\x03\x03\0\x07\x08\0\0\0\x02\0\0\0\x03\x03\0\x09";
 
-/// Its whole frames.
+/// The whole frames of `STREAM`.
 const FRAMES: &[FrameRow] = &[
     FrameRow(20, 1, 1, 0, b"\x0a\x09demo.Echo\x12\x04Echo\x1a\x01\x2a"),
     FrameRow(0, 1, 3, 5, b""),
     FrameRow(2, 3, 3, 0, &[7, 8]),
 ];
 
-/// Whether what came in are the frames of these rows.
+/// Returns whether these are the frames of these rows.
 fn are(alloc: Global, given: &[Incoming], rows: &[FrameRow]) -> Result<bool, Fail> {
     if given.len() != rows.len() {
         return Ok(false);
@@ -33,7 +33,8 @@ fn are(alloc: Global, given: &[Incoming], rows: &[FrameRow]) -> Result<bool, Fai
     Ok(all)
 }
 
-/// What a decoder gives for bytes that come `step` at a time, and how many calls that takes.
+/// Returns the frames that a decoder gives for bytes that come `step` at a time, and the number of calls that this
+/// takes.
 fn fed(
     alloc: Global,
     decoder: &mut FrameDecoder,
@@ -59,7 +60,7 @@ fn fed(
     Ok((given, calls))
 }
 
-/// The header at the front of bytes, and what is behind it.
+/// Returns the header at the front of bytes, and the bytes after it.
 fn header_at(bytes: &[u8]) -> Option<(MessageHeader, &[u8])> {
     let [a, b, c, d, e, f, g, h, type_, flags, body @ ..] = bytes else {
         return None;
@@ -73,7 +74,7 @@ fn header_at(bytes: &[u8]) -> Option<(MessageHeader, &[u8])> {
     Some((header, body))
 }
 
-/// The frames at the front of bytes, and how many bytes are behind them: by looking at whole lists.
+/// Returns the frames at the front of bytes, and the number of bytes after them. It looks at whole lists.
 fn plainly(alloc: Global, bytes: &[u8]) -> Result<(Vec<Incoming>, usize), Fail> {
     let mut given = Vec::new(alloc);
     let mut rest = bytes;
@@ -96,7 +97,7 @@ fn plainly(alloc: Global, bytes: &[u8]) -> Result<(Vec<Incoming>, usize), Fail> 
     Ok((given, rest.len()))
 }
 
-/// Returns whether bytes that come `step` at a time are just these frames.
+/// Returns whether the decoder gives exactly these frames for bytes that come `step` at a time.
 fn gives(
     alloc: Global,
     decoder: &mut FrameDecoder,
@@ -108,7 +109,7 @@ fn gives(
     are(alloc, given.as_slice(), rows)
 }
 
-/// Returns whether the stream in pieces of this size gives its frames, and the byte behind it its last one.
+/// Returns whether the stream in pieces of this size gives its frames, and one more byte after it gives its last frame.
 fn comes_in_pieces(alloc: Global, step: usize) -> Result<bool, Fail> {
     let mut decoder = FrameDecoder::new(alloc);
     let are_frames = gives(alloc, &mut decoder, STREAM, step, FRAMES)?;
@@ -128,7 +129,7 @@ fn frames_however_they_are_cut(rt: HostRuntime) -> Tested {
     Ok(())
 }
 
-/// A decoder that was fed the front of a frame, and whether it gave nothing.
+/// Returns a decoder that was fed the front of a frame, and whether it gave nothing.
 fn begun(alloc: Global, front: &[u8], step: usize) -> Result<(FrameDecoder, bool), Fail> {
     let mut decoder = FrameDecoder::new(alloc);
     let (none, _) = fed(alloc, &mut decoder, front, step)?;
@@ -170,7 +171,7 @@ fn an_empty_piece_is_nothing(rt: HostRuntime) -> Tested {
     check(takes(rt.alloc(), &mut decoder, &[]) && decoder.at_boundary())
 }
 
-/// Returns whether the decoder takes so many pieces of one byte, and gives nothing.
+/// Returns whether the decoder takes `count` pieces of one byte, and gives nothing.
 fn takes_bytes(alloc: Global, decoder: &mut FrameDecoder, count: u32) -> bool {
     let mut all = true;
     for _ in 0..count {
@@ -179,7 +180,7 @@ fn takes_bytes(alloc: Global, decoder: &mut FrameDecoder, count: u32) -> bool {
     all
 }
 
-/// A frame that is too long, one byte a call, and the frame behind it.
+/// A frame that is too long is counted, one byte a call, and the frame after it is given.
 #[test]
 fn an_oversized_frame_is_counted(rt: HostRuntime) -> Tested {
     let alloc = rt.alloc();
@@ -199,14 +200,14 @@ fn an_oversized_frame_is_counted(rt: HostRuntime) -> Tested {
     check(has_begun && is_taken && is_oversize && is_over && is_closed)
 }
 
-/// Returns whether it is a frame of the greatest length, whose memory is what its header states.
+/// Returns whether it is a frame of the greatest length, with exactly the memory that its header states.
 fn is_greatest(frame: GenMessage) -> bool {
     let has_header = frame.header == MessageHeader::new_request(5, 4194304);
     let payload = frame.payload.into_vec();
     has_header && payload.len() == 4194304 && payload.capacity() == 4194304
 }
 
-/// A frame of the greatest length is kept, and its memory is what its header states.
+/// A frame of the greatest length is kept, with exactly the memory that its header states.
 #[test]
 fn the_greatest_frame_is_kept(rt: HostRuntime) -> Tested {
     let alloc = rt.alloc();
@@ -220,14 +221,14 @@ fn the_greatest_frame_is_kept(rt: HostRuntime) -> Tested {
     check(has_begun && is_taken && is_greatest(frame))
 }
 
-/// How many frames and calls a stream takes in pieces of this size.
+/// Returns the numbers of frames and of calls that a stream takes in pieces of this size.
 fn counted(alloc: Global, bytes: &[u8], step: usize) -> Result<(usize, usize), Fail> {
     let mut decoder = FrameDecoder::new(alloc);
     let (given, calls) = fed(alloc, &mut decoder, bytes, step)?;
     Ok((given.len(), calls))
 }
 
-/// Returns whether so many bytes are 2000 frames, and take at most two calls for a frame, and one for each piece.
+/// Returns whether these bytes are 2000 frames, and take at most two calls for each frame and one for each piece.
 fn are_few_calls(alloc: Global, bytes: &[u8], step: usize) -> Result<bool, Fail> {
     let (frames, calls) = counted(alloc, bytes, step)?;
     let pieces = bytes.len() / step.max(1);
@@ -237,7 +238,7 @@ fn are_few_calls(alloc: Global, bytes: &[u8], step: usize) -> Result<bool, Fail>
 /// Sizes of pieces.
 const STEPS: &[usize] = &[1, 7, 100, 4096, 1000000];
 
-/// The calls grow with the bytes: at most two for a frame, and one for each piece.
+/// The number of calls grows with the bytes: at most two for each frame, and one for each piece.
 #[test]
 fn calls_grow_with_the_bytes(rt: HostRuntime) -> Tested {
     let mut bytes = Vec::new(rt.alloc());
@@ -251,7 +252,7 @@ fn calls_grow_with_the_bytes(rt: HostRuntime) -> Tested {
     Ok(())
 }
 
-/// Where memory for a piece was refused, the decoder is as before, and the piece may come again.
+/// If memory for a piece was refused, the decoder is as before, and the piece may come again.
 #[test]
 fn a_refused_piece_may_come_again(rt: HostRuntime) -> Tested {
     let alloc = rt.alloc();
@@ -277,7 +278,7 @@ fn is_too_long(error: &Error) -> bool {
     matches!(error, Error::RpcStatus(status) if status.code == 3 && status.message.as_str() == told)
 }
 
-/// The header says how long a message is, and not the payload that is there.
+/// The length in the header counts, and not the payload's.
 #[test]
 fn long_messages_are_refused(rt: HostRuntime) -> Tested {
     let alloc = rt.alloc();

@@ -1,4 +1,4 @@
-//! Plain halves, through their bounds, the sealing of a frame, and the errors that `?` makes.
+//! Plain halves through their bounds, the sealing of a frame, and the errors of `?`.
 ghost use Rattle.std.specs.Prelude.{◌≡◌, IfErr};
 
 use crate::tests::rows::{FrameRow, header_of, queued_of};
@@ -6,10 +6,10 @@ use std::alloc::{AllocError, Global};
 use std::test::Fail;
 use ttrpc_bench::checks::{Tested, check, check_row};
 use ttrpc_proto::{MESSAGE_LENGTH_MAX, Outgoing};
-use ttrpc_secure::sending::{SendError, associated_bytes, send};
+use ttrpc_secure::sending::{Parts, SendError, associated_bytes, send};
 use ttrpc_secure::{InboundTransform, OutboundTransform, Plain, TransformError};
 
-/// Returns whether what the one half seals is `expected`, and the other half opens that to `data`.
+/// Returns whether the one half seals the data to `expected`, and the other half opens that to `data`.
 fn crosses<O: OutboundTransform, I: InboundTransform>(
     alloc: Global,
     halves: (&mut O, &mut I),
@@ -22,7 +22,7 @@ fn crosses<O: OutboundTransform, I: InboundTransform>(
     Ok(sealed.as_slice() == expected && opened.as_slice() == data)
 }
 
-/// The same by the calls that take a vector.
+/// Returns the same for the calls that take a vector.
 fn crosses_as_it_is<O: OutboundTransform, I: InboundTransform>(
     alloc: Global,
     halves: (&mut O, &mut I),
@@ -37,7 +37,7 @@ fn crosses_as_it_is<O: OutboundTransform, I: InboundTransform>(
     Ok(is_sealed && opened.as_slice() == data)
 }
 
-/// Returns whether plain halves leave the data as they are, by either call.
+/// Returns whether plain halves leave the data as they are, in either call.
 fn stay(alloc: Global, data: &[u8]) -> Result<bool, Fail> {
     let mut outbound = Plain::default();
     let mut inbound = Plain {};
@@ -57,7 +57,7 @@ fn plain_halves_leave_data_as_it_is(rt: HostRuntime) -> Tested {
     check(outbound.max_overhead() == 0 && <Plain as OutboundTransform>::SEALS == false)
 }
 
-// Only memory is an error in these two, and the clauses see which error the `?` makes of it.
+// Refused memory is the only error in these two functions, and their clauses state the error that `?` makes of it.
 fn pushed(items: &mut Vec<u8>, item: u8) -> Result<(), TransformError>
     ensures { IfErr result (λ e. e ≡ TransformError.NoMemory) }
 {
@@ -85,7 +85,7 @@ fn a_payload_is_bound_to_its_header() -> Tested {
     check(associated_bytes(&header) == [1, 2, 3, 4, 3, 5])
 }
 
-/// Sends so many bytes as they are.
+/// Sends this number of bytes as they are.
 fn send_sevens(
     alloc: Global,
     outgoing: &mut Outgoing,
@@ -93,16 +93,17 @@ fn send_sevens(
 ) -> Result<Result<(), SendError>, Fail> {
     let data = vec![in alloc; 7; length]?;
     let frame = queued_of(alloc, &FrameRow(0, 1, 3, 0, b""), None)?;
-    Ok(send(alloc, &mut Plain {}, outgoing, frame, data))
+    let parts = Parts::whole(data.as_slice());
+    Ok(send(alloc, &mut Plain {}, outgoing, frame, parts))
 }
 
 /// The front of a frame of the greatest length.
 const GREATEST: [u8; 11] = [0, 0x40, 0, 0, 0, 0, 0, 1, 3, 0, 7];
 
-/// The greatest payload is queued, and one byte more is refused.
+/// The greatest payload is queued, and a payload with one byte more is refused.
 #[test]
 fn a_payload_too_long_is_not_queued(rt: HostRuntime) -> Tested {
-    let mut outgoing = Outgoing::new(rt.alloc());
+    let mut outgoing = Outgoing::new(rt.alloc())?;
     let refused = send_sevens(rt.alloc(), &mut outgoing, MESSAGE_LENGTH_MAX + 1)?;
     let is_refused = refused == Err(SendError::TooLong) && outgoing.is_empty();
     let is_sent = match send_sevens(rt.alloc(), &mut outgoing, MESSAGE_LENGTH_MAX)? {

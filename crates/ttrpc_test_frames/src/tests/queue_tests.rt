@@ -8,7 +8,7 @@ use ttrpc_proto::framing::owners::Owners;
 use ttrpc_proto::{Error, Outgoing};
 use ttrpc_wire::Blob;
 
-/// One call of a queue, with what it answers.
+/// A call of a queue, with its expected answer.
 #[derive(Clone, Copy, Debug)]
 enum Act {
     Place(FrameRow),
@@ -17,9 +17,9 @@ enum Act {
     Fill(&'static [u8]),
     Withdraw,
     ThrowAway(u64),
-    /// The requests of all owners up to this one.
+    /// Throws away the requests of all owners up to this one.
     ThrowAwayUpTo(u64),
-    /// So much room is offered, and these bytes are lent.
+    /// Room for this number of bytes is offered, and these bytes are lent.
     Lend(usize, &'static [u8]),
     Wrote(usize),
     Lent(usize),
@@ -48,17 +48,17 @@ const ASKING: FrameRow = FrameRow(3, 1, 1, 0, b"abc");
 
 const ASKED: &[u8] = b"\0\0\0\x03\0\0\0\x01\x01\0abc";
 
-/// Data of stream 258 with two bytes, whose header says 16909060.
+/// Data of stream 258 with two bytes. The length in its header is 16909060.
 const SAYING: FrameRow = FrameRow(16909060, 258, 3, 6, b"\xff\x00");
 
 const SAID: &[u8] = b"\x01\x02\x03\x04\0\0\x01\x02\x03\x06\xff\x00";
 
-/// A response of stream 5 with no payload.
+/// A response of stream 5 without a payload.
 const ANSWERING: FrameRow = FrameRow(0, 5, 2, 0, b"");
 
 const ANSWERED: &[u8] = b"\0\0\0\0\0\0\0\x05\x02\0";
 
-/// Scripts, each with what the queue gives behind it.
+/// Scripts, each with the bytes that the queue gives after it.
 const SCRIPTS: &[(&[Act], &[u8])] = &[
     // frames leave in order
     (
@@ -101,7 +101,7 @@ const SCRIPTS: &[(&[Act], &[u8])] = &[
         ],
         SAID,
     ),
-    // requests of several owners are thrown away at once, and the other frames keep their order
+    // requests of several owners are thrown away in one call, and the other frames keep their order
     (
         &[
             Act::PlaceOf(ASKING, 1),
@@ -114,7 +114,7 @@ const SCRIPTS: &[(&[Act], &[u8])] = &[
         ],
         b"\x01\x02\x03\x04\0\0\x01\x02\x03\x06\xff\x00\0\0\0\x03\0\0\0\x01\x01\0abc\0\0\0\0\0\0\0\x05\x02\0",
     ),
-    // one that has begun stays: it begins with its first lent byte
+    // a frame that has begun stays: it begins with its first lent byte
     (
         &[
             Act::PlaceOf(ASKING, 7),
@@ -129,7 +129,7 @@ const SCRIPTS: &[(&[Act], &[u8])] = &[
         ],
         ASKED,
     ),
-    // behind a whole frame the next one hasn't begun
+    // after a whole frame the next one hasn't begun
     (
         &[
             Act::Place(ANSWERING),
@@ -174,7 +174,7 @@ const SCRIPTS: &[(&[Act], &[u8])] = &[
     ),
 ];
 
-/// Returns whether these bytes are lent if so many are offered.
+/// Returns whether these bytes are lent if room for `size` bytes is offered.
 fn lends(queue: &mut Outgoing, size: usize, expected: &[u8]) -> bool {
     let mut buffer = [0xee; 16];
     let room = &mut buffer[..size.min(16)];
@@ -182,12 +182,12 @@ fn lends(queue: &mut Outgoing, size: usize, expected: &[u8]) -> bool {
     &room[..count] == expected && room[count..].iter().all(|byte| *byte == 0xee)
 }
 
-/// Makes one call, and returns whether it answered as it must.
+/// Makes one call, and returns whether its answer was as expected.
 fn does(alloc: Global, queue: &mut Outgoing, act: Act) -> Result<bool, Fail> {
     match act {
         Act::Place(row) => queue.place(queued_of(alloc, &row, None)?, 0)?,
         Act::PlaceOf(row, owner) => queue.place(queued_of(alloc, &row, Some(owner))?, 0)?,
-        Act::Fill(payload) => queue.fill(Blob::from_slice(alloc, payload)?),
+        Act::Fill(payload) => queue.fill(b"", payload, b""),
         Act::Withdraw => queue.withdraw(),
         Act::ThrowAway(owner) => queue.throw_away(&owner),
         Act::ThrowAwayUpTo(last) => queue.throw_away(&UpTo { last }),
@@ -200,7 +200,7 @@ fn does(alloc: Global, queue: &mut Outgoing, act: Act) -> Result<bool, Fail> {
     Ok(true)
 }
 
-/// All that a queue gives, in pieces of this size.
+/// Returns all bytes that a queue gives, in pieces of this size.
 fn drained(alloc: Global, queue: &mut Outgoing, size: usize) -> Result<Vec<u8>, Fail> {
     let mut bytes = Vec::new(alloc);
     for _ in 0..100 {
@@ -212,9 +212,9 @@ fn drained(alloc: Global, queue: &mut Outgoing, size: usize) -> Result<Vec<u8>, 
     Ok(bytes)
 }
 
-/// Returns whether the queue does what the script says, and gives these bytes behind it.
+/// Returns whether the queue does what the script says, and gives these bytes after it.
 fn runs(alloc: Global, script: &[Act], expected: &[u8], size: usize) -> Result<bool, Fail> {
-    let mut queue = Outgoing::new(alloc);
+    let mut queue = Outgoing::new(alloc)?;
     let mut all = true;
     for act in script {
         all = all && does(alloc, &mut queue, *act)?;
@@ -233,11 +233,11 @@ fn scripts_of_a_queue(rt: HostRuntime) -> Tested {
     Ok(())
 }
 
-/// Where memory for a frame was refused, nothing is queued, and the next frame may be.
+/// If memory for a frame was refused, nothing is queued, and the next frame may be.
 #[test]
 fn a_refused_frame_is_not_queued(rt: HostRuntime) -> Tested {
     let alloc = rt.alloc();
-    let mut queue = Outgoing::new(alloc);
+    let mut queue = Outgoing::new(alloc)?;
     let mut is_unchanged = true;
     if queue.place(queued_of(alloc, &ANSWERING, None)?, 0) == Err(Error::NoMemory) {
         is_unchanged = queue.is_empty();

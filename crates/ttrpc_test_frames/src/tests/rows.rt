@@ -24,7 +24,7 @@ pub fn message_of(alloc: Global, row: &FrameRow) -> Result<GenMessage, Fail> {
     })
 }
 
-/// A frame to be written, which is a unary request of this owner if there is one.
+/// Returns a frame to be written. It is a unary request of this owner if there is one.
 pub fn queued_of(alloc: Global, row: &FrameRow, asks: Option<u64>) -> Result<Queued, Fail> {
     Ok(Queued {
         message: message_of(alloc, row)?,

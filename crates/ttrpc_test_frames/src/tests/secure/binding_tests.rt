@@ -1,4 +1,4 @@
-//! Packets of halves that bind data to a header by a tag, as they are written, read, and refused under another header.
+//! Packets of halves that bind data to a header by a tag: they are written, read, and refused under another header.
 use crate::tests::secure::context_tests::is_others;
 use crate::tests::secure::masking::{Masking, masking_context};
 use std::alloc::Global;
@@ -8,10 +8,10 @@ use ttrpc_proto::{GenMessage, MessageHeader};
 use ttrpc_secure::ConnectionContext;
 use ttrpc_wire::Blob;
 
-/// What of a header its payload is bound to: stream, type and flags.
+/// The part of a header that its payload is bound to: stream, type and flags.
 type Head = (u32, u8, u8);
 
-/// Data under a header with their packet, and another header with what is told of the packet under it.
+/// Data under a header with their packet, and another header with the error for the packet under it.
 struct Bound {
     head: Head,
     data: &'static [u8],
@@ -45,7 +45,7 @@ const BOUND: &[Bound] = &[
         other: (5, 3, 0xff),
         told: "transform_inbound failed: xor: AAD mismatch (stored=0x0305, expected=0x03FA) — header tampered",
     },
-    // A frame that ends a stream, which has no data.
+    // A frame that ends a stream and has no data.
     Bound {
         head: (7, 3, 5),
         data: b"",
@@ -62,7 +62,7 @@ const BOUND: &[Bound] = &[
     },
 ];
 
-/// Packets that are refused under stream 1, type 1 and no flags, each with what is told: the first thing that is wrong.
+/// Packets that are refused under stream 1, type 1 and no flags, each with the error: the first thing that is wrong.
 const REFUSED: &[(&[u8], &str)] = &[
     (
         &[],
@@ -102,7 +102,7 @@ fn message_under(alloc: Global, head: Head, payload: &[u8]) -> Result<GenMessage
 
 type Context = ConnectionContext<Masking, Masking>;
 
-/// Returns whether the packet is refused so under this header, and the message stays.
+/// Returns whether the packet is refused with this text under this header, and the message stays.
 fn is_refused(
     alloc: Global,
     context: &mut Context,
@@ -116,7 +116,7 @@ fn is_refused(
     Ok(is_told && message == message_under(alloc, head, packet)?)
 }
 
-/// Returns whether the data are sealed to the packet, which opens under its header.
+/// Returns whether the data are sealed to the packet, and the packet opens under its header.
 fn is_sealed(alloc: Global, context: &mut Context, row: &Bound) -> Result<bool, Fail> {
     let mut message = message_under(alloc, row.head, row.data)?;
     context.outbound(alloc, &mut message, false)?;
@@ -125,7 +125,8 @@ fn is_sealed(alloc: Global, context: &mut Context, row: &Bound) -> Result<bool, 
     Ok(is_sealed && message == message_under(alloc, row.head, row.data)?)
 }
 
-/// Returns whether the data are sealed to the packet, which opens under its header alone.
+/// Returns whether the data are sealed to the packet, and the packet opens under its own header but not under the
+/// other.
 fn is_bound(alloc: Global, context: &mut Context, row: &Bound) -> Result<bool, Fail> {
     let is_sealed = is_sealed(alloc, context, row)?;
     Ok(is_sealed && is_refused(alloc, context, row.other, row.packet, row.told)?)

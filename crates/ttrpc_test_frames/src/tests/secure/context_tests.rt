@@ -1,4 +1,4 @@
-//! The context of a connection, over halves that stamp, leave data as they are, swell and seal nothing.
+//! The context of a connection, over halves that stamp, leave data as they are, swell, and seal nothing.
 use std::alloc::Global;
 use std::test::Fail;
 use ttrpc_bench::checks::{Tested, check};
@@ -7,7 +7,7 @@ use ttrpc_proto::{Error, GenMessage, MESSAGE_LENGTH_MAX, MessageHeader, Outgoing
 use ttrpc_secure::{ConnectionContext, Plain, plain_context};
 use ttrpc_wire::Blob;
 
-/// What is found out of a condition, where memory may be refused.
+/// The result of a condition, if memory isn't refused.
 type Found = std::result::Result<bool, Fail>;
 
 const LONG: &str = "message length 4194305 exceed maximum message size of 4194304";
@@ -23,7 +23,7 @@ fn stamped(alloc: Global) -> ConnectionContext<StampOut, StampIn> {
     ConnectionContext::of_halves(alloc, outbound, inbound)
 }
 
-/// A data frame of stream 1 with this payload, of this length.
+/// Returns a data frame of stream 1 with this payload and this length.
 pub fn data_frame(
     alloc: Global,
     length: u32,
@@ -35,7 +35,7 @@ pub fn data_frame(
     })
 }
 
-/// Returns whether the answer is an error of this text alone.
+/// Returns whether the answer is `Others` with this text.
 pub fn is_others<T>(answer: &Result<T>, expected: &str) -> Found {
     match answer {
         Err(Error::Others(text)) => Ok(text.as_str() == expected),
@@ -44,7 +44,7 @@ pub fn is_others<T>(answer: &Result<T>, expected: &str) -> Found {
     }
 }
 
-/// Returns whether the answer is a status of code INVALID_ARGUMENT and of this text.
+/// Returns whether the answer is a status with the code INVALID_ARGUMENT and this text.
 fn is_status<T>(answer: &Result<T>, expected: &str) -> Found {
     match answer {
         Err(Error::RpcStatus(status)) => {
@@ -55,13 +55,13 @@ fn is_status<T>(answer: &Result<T>, expected: &str) -> Found {
     }
 }
 
-/// Returns whether the message is the data frame of this length and payload.
+/// Returns whether the message is the data frame with this length and payload.
 fn is_frame(alloc: Global, message: &GenMessage, length: u32, payload: &[u8]) -> Found {
     let expected = data_frame(alloc, length, payload)?;
     Ok(*message == expected)
 }
 
-/// Returns whether the bytes are sealed to these, and these are opened to them, by the calls that bind or not.
+/// Returns whether the bytes are sealed to these, and these are opened to them, with and without binding.
 fn go_and_come(
     alloc: Global,
     context: &mut ConnectionContext<StampOut, StampIn>,
@@ -73,7 +73,7 @@ fn go_and_come(
     Ok(there.as_slice() == sealed && back.as_slice() == bytes)
 }
 
-/// The same by the calls that check no length.
+/// Returns the same for the calls that check no length.
 fn go_and_come_unchecked(
     alloc: Global,
     context: &mut ConnectionContext<StampOut, StampIn>,
@@ -123,7 +123,7 @@ fn lends(outgoing: &mut Outgoing, expected: [u8; 12]) -> bool {
 fn messages_are_queued(rt: HostRuntime) -> Tested {
     let alloc = rt.alloc();
     let mut context = stamped(alloc);
-    let mut outgoing = Outgoing::new(alloc);
+    let mut outgoing = Outgoing::new(alloc)?;
     let mut message = data_frame(alloc, 1, &[0x2a])?;
     context.transform_send(alloc, &mut message, &mut outgoing)?;
     let is_taken = message == GenMessage::new(alloc);
@@ -136,7 +136,7 @@ fn messages_are_queued(rt: HostRuntime) -> Tested {
     check(is_taken && lent == 12 && is_first && is_second)
 }
 
-/// A payload above the safe limit is told by each call that seals, and changes nothing.
+/// Each call that seals reports a payload above the safe limit, and changes nothing.
 #[test]
 fn a_payload_above_the_limit_is_told(rt: HostRuntime) -> Tested {
     let alloc = rt.alloc();
@@ -150,12 +150,12 @@ fn a_payload_above_the_limit_is_told(rt: HostRuntime) -> Tested {
     check(is_told && is_advised && is_frame(alloc, &message, 24, &long)?)
 }
 
-/// The same of the calls that queue.
+/// The calls that queue do the same.
 #[test]
 fn a_payload_above_the_limit_is_not_queued(rt: HostRuntime) -> Tested {
     let alloc = rt.alloc();
     let mut context = ConnectionContext::of_halves(alloc, Sealed { room: 23 }, Plain {});
-    let mut outgoing = Outgoing::new(alloc);
+    let mut outgoing = Outgoing::new(alloc)?;
     let mut message = data_frame(alloc, 24, &[7; 24])?;
     let sent = context.transform_send(alloc, &mut message, &mut outgoing);
     let is_advised = is_others(&sent, ABOVE_LIMIT_ADVICE)?;
@@ -165,12 +165,12 @@ fn a_payload_above_the_limit_is_not_queued(rt: HostRuntime) -> Tested {
     check(is_advised && is_left && is_others(&sent, ABOVE_LIMIT)? && outgoing.is_empty())
 }
 
-/// What the half refuses is told by its text, and isn't queued.
+/// If the half refuses, the error has its text, and nothing is queued.
 #[test]
 fn what_is_not_sealed_is_told(rt: HostRuntime) -> Tested {
     let alloc = rt.alloc();
     let mut context = ConnectionContext::of_halves(alloc, Sealed { room: 23 }, Plain {});
-    let mut outgoing = Outgoing::new(alloc);
+    let mut outgoing = Outgoing::new(alloc)?;
     let unsealed = "transform_outbound failed: sealed up";
     let sealed = context.outbound_buf(alloc, &[7; 23], b"", true);
     let is_told = is_others(&sealed, unsealed)?;
@@ -179,7 +179,7 @@ fn what_is_not_sealed_is_told(rt: HostRuntime) -> Tested {
     check(is_told && is_others(&sent, unsealed)? && outgoing.is_empty())
 }
 
-/// Returns whether bytes are refused as too long by the calls that seal and open, by an error or a status.
+/// Returns whether bytes are refused as too long by the calls that seal and open, as an error or as a status.
 fn are_too_long(
     alloc: Global,
     context: &mut ConnectionContext<Plain, Plain>,
@@ -193,7 +193,7 @@ fn are_too_long(
     )
 }
 
-/// Where sealing adds nothing, the greatest message is the limit, and its own text is told.
+/// If sealing adds nothing, the greatest message is the limit, and its own text is reported.
 #[test]
 fn a_message_too_long_is_told(rt: HostRuntime) -> Tested {
     let alloc = rt.alloc();
@@ -203,7 +203,7 @@ fn a_message_too_long_is_told(rt: HostRuntime) -> Tested {
     check(is_plain && are_too_long(alloc, &mut context, long.as_slice())?)
 }
 
-/// What opens to more than a message may have isn't handed on, and the message stays.
+/// A payload that opens to more than a message may have is refused, and the message stays.
 #[test]
 fn what_swells_is_told(rt: HostRuntime) -> Tested {
     let alloc = rt.alloc();
@@ -214,7 +214,7 @@ fn what_swells_is_told(rt: HostRuntime) -> Tested {
     check(is_status && is_told && is_frame(alloc, &message, 1, &[1])?)
 }
 
-/// What isn't opened is told, and the half opens what comes next.
+/// If a payload isn't opened, the error says why, and the half opens the next payload.
 #[test]
 fn what_is_not_opened_is_told(rt: HostRuntime) -> Tested {
     let alloc = rt.alloc();

@@ -1,4 +1,4 @@
-//! What is known of a connection, by name and kind.
+//! The data of a connection, by name and kind.
 ghost use Rattle.std.specs.Prelude.{◌≡◌, codes};
 ghost use Rattle.std.specs.BTreeMap.{get_by_text};
 ghost use Rattle.std.specs.Option.{option_and_then, option_copied};
@@ -10,14 +10,14 @@ use std::test::Fail;
 use ttrpc_bench::checks::{Tested, check};
 use ttrpc_secure::{ConnectionData, ConnectionDataExt, Datum, Kind};
 
-/// Nothing known but one value, under this name.
+/// Returns data with one value, which has this name.
 fn known(alloc: Global, name: &str, datum: Datum) -> Result<ConnectionData, Fail> {
     let mut data = BTreeMap::new(alloc);
     data.insert(String::from_str(alloc, name)?, datum)?;
     Ok(data)
 }
 
-/// Returns whether the value is found under its name and as its kind, and not under another name or as another kind.
+/// Returns whether the value is found with its name and its kind, and not with another name or another kind.
 fn is_found<T: Kind + PartialEq, U: Kind>(
     alloc: Global,
     datum: Datum,
@@ -74,9 +74,10 @@ fn other_values_are_found(rt: HostRuntime) -> Tested {
     check(is_text && are_bytes && is_found::<bool, u8>(alloc, Datum::Bool(true), &true)?)
 }
 
-// What is found is known where it is used.
+// The clause of this function states the value that is found.
 fn peer(connection_data: &ConnectionData) -> Option<&u32>
-    ensures { option_copied result ≡ option_and_then u32_of (get_by_text connection_data.now (codes "peer")) }
+    ensures { option_copied result
+        ≡ option_and_then u32_of (get_by_text connection_data.now (codes "peer")) }
 {
     connection_data.get_typed::<u32>("peer")
 }

@@ -1,4 +1,4 @@
-//! What an error of a hook prints.
+//! The texts of a hook's errors.
 ghost use Rattle.std.specs.Prelude.{IfErr};
 ghost use Rattle.ttrpc_secure.specs.Hooks.{IsRefusedMemory};
 
@@ -24,7 +24,7 @@ fn error_of(alloc: Global, row: &Row) -> Result<HookError, AllocError> {
     })
 }
 
-/// Errors, each with what `{}` and `{:?}` write for it.
+/// Errors, each with its texts for `{}` and `{:?}`.
 const ERRORS: &[(Row, &str, &str)] = &[
     (
         Row::Rejected("bad cid"),
@@ -41,13 +41,13 @@ const ERRORS: &[(Row, &str, &str)] = &[
     (Row::Other(""), "", "Other()"),
 ];
 
-/// Returns whether `{}` writes this for the error.
+/// Returns whether `{}` writes this text for the error.
 fn is_printed(alloc: Global, error: &HookError, printed: &str) -> Result<bool, Fail> {
     let text = error.to_string(alloc)?;
     Ok(text.as_str() == printed)
 }
 
-/// Returns whether `{}` and `{:?}` write these for the error of this row.
+/// Returns whether `{}` and `{:?}` write these texts for the error of this row.
 fn prints(alloc: Global, row: &Row, printed: &str, debugged: &str) -> Result<bool, Fail> {
     let error = error_of(alloc, row)?;
     let text = format!(in alloc; "{error:?}")?;
@@ -62,7 +62,7 @@ fn errors_print_their_texts(rt: HostRuntime) -> Tested {
     Ok(())
 }
 
-/// What follows is the standard library's text.
+/// The rest is the text of the standard library.
 #[test]
 fn failed_reads_print_their_cause(rt: HostRuntime) -> Tested {
     let alloc = rt.alloc();
@@ -76,7 +76,7 @@ fn failed_reads_print_their_cause(rt: HostRuntime) -> Tested {
     )
 }
 
-// What a hook that asks for memory answers by `?`.
+// Returns the result of a hook that asks for memory with `?`.
 fn reserved(alloc: Global, room: usize) -> Result<Vec<u8>, HookError>
     ensures { IfErr result IsRefusedMemory }
 {
@@ -86,7 +86,7 @@ fn reserved(alloc: Global, room: usize) -> Result<Vec<u8>, HookError>
     Ok(out)
 }
 
-/// Returns whether memory was refused, as a failure of that kind.
+/// Returns whether memory was refused, as an error of that kind.
 fn is_refused(outcome: &Result<Vec<u8>, HookError>) -> bool {
     match outcome {
         Err(HookError::Io(cause)) => cause.kind() == ErrorKind::OutOfMemory,

@@ -1,4 +1,4 @@
-//! A connection whose other side has said something, and hooks that listen to it.
+//! A connection with bytes from its other side, and hooks that read them.
 use std::alloc::Global;
 use std::io;
 use ttrpc_bench::{Giver, Manner, StampIn, StampOut, knowing, rejected};
@@ -6,14 +6,14 @@ use ttrpc_proto::Source;
 use ttrpc_secure::{AcceptHook, ConnectHook, Datum, HookError, HookOutput, Plain};
 use ttrpc_wire::Text;
 
-/// What a hook gives.
+/// The result of a hook.
 type Hooked<O, I> = Result<HookOutput<O, I>, HookError>;
 
-/// A connection whose other side has said this, and how it is read.
+/// A connection with the bytes of its other side, and how they are read.
 #[derive(Drop)]
 pub struct Line(pub &'static [u8], pub Manner);
 
-/// What the other side says first, at most 8 bytes of it.
+/// Returns the first bytes of the other side, at most 8.
 fn heard(alloc: Global, line: &Line) -> Result<Vec<u8>, HookError> {
     let mut buffer = [0; 8];
     let mut giver = Giver::new(line.0, line.1);
@@ -21,11 +21,11 @@ fn heard(alloc: Global, line: &Line) -> Result<Vec<u8>, HookError> {
     Ok(Vec::from_slice(alloc, &buffer[..count])?)
 }
 
-/// Lets a connection pass on which something is said, knows it as `said`, and leaves data as it is.
+/// A hook that rejects a connection without bytes. Otherwise it stores the bytes as `said`, and leaves data as it is.
 #[derive(Drop)]
 pub struct Listens {}
 
-/// Stamps what goes through a connection on which the other side wants that.
+/// A hook that stamps the payloads of a connection if the other side asks for that.
 #[derive(Drop)]
 pub struct Agrees {}
 

@@ -1,4 +1,4 @@
-//! Hooks that are run, and the limit of their time.
+//! Hooks that are run, and their time limit.
 use crate::tests::secure::fakes::{Agrees, Line, Listens};
 use std::alloc::{AllocError, Global};
 use std::io::ErrorKind;
@@ -11,7 +11,7 @@ use ttrpc_secure::{
 };
 use ttrpc_wire::Text;
 
-/// Moments at which a hook is started and at which it ends, and whether it ends in time.
+/// The moments at which a hook starts and ends, and whether it ends in time.
 const MOMENTS: &[(u64, u64, bool)] = &[
     (0, 0, true),
     (0, 29999999999, true),
@@ -30,7 +30,7 @@ const MOMENTS: &[(u64, u64, bool)] = &[
 
 type Hooked = Result<HookOutput<Plain, Plain>, HookError>;
 
-/// Two halves alone.
+/// Returns whether the output has two halves alone.
 fn is_passed(hooked: &Hooked) -> bool {
     match hooked {
         Ok(output) => output.connection_data.is_empty(),
@@ -49,7 +49,7 @@ fn is_timeout(hooked: &Hooked) -> bool {
     matches!(hooked, Err(HookError::Timeout))
 }
 
-/// Returns whether a hook that lets pass at these moments does so in time, or too late.
+/// Returns whether a hook that passes at these moments does so in time, or too late.
 fn passes_in_time(alloc: Global, started: u64, now: u64, in_time: bool) -> bool {
     let halves = HookOutput::of_halves(alloc, Plain {}, Plain {});
     let passed = hook_result(started, now, Ok(halves));
@@ -73,7 +73,8 @@ fn results_come_in_time_or_late(rt: HostRuntime) -> Tested {
     check(ACCEPT_HOOK_TIMEOUT == 30000000000)
 }
 
-/// What a hook that ends at this moment, and was started at 0, gives for a connection that a server has accepted.
+/// Returns the result of a hook for a connection that a server has accepted. The hook started at 0 and ends at this
+/// moment.
 fn accepted<S, H: AcceptHook<S>>(
     alloc: Global,
     hook: &H,
@@ -83,7 +84,7 @@ fn accepted<S, H: AcceptHook<S>>(
     hook_result(0, now, hook.on_accept(alloc, stream))
 }
 
-/// Returns whether the error prints this, if memory wasn't refused: else the test ends with that error.
+/// Returns whether the error prints this text. If memory was refused, returns that as the test's error.
 fn prints(alloc: Global, error: HookError, expected: &str) -> Result<bool, Fail> {
     if let HookError::Io(cause) = &error {
         if cause.kind() == ErrorKind::OutOfMemory {
@@ -94,13 +95,14 @@ fn prints(alloc: Global, error: HookError, expected: &str) -> Result<bool, Fail>
     Ok(text.as_str() == expected)
 }
 
-/// It fails behind its bytes.
+/// A read after the bytes fails.
 const BROKEN: Manner = Manner {
     behind: Some(ErrorKind::ConnectionReset),
     ..AT_ONCE
 };
 
-/// What is heard from connections and when a hook that listens ends, and what is known then or what is printed.
+/// The bytes of a connection and the moment at which a hook that listens ends, and the stored bytes or the printed
+/// error.
 const ACCEPTED: &[(Line, u64, Result<&[u8], &str>)] = &[
     (Line(b"peer", AT_ONCE), 1, Ok(b"peer")),
     (Line(b"a long speech", AT_ONCE), 1, Ok(b"a long s")),
@@ -118,7 +120,7 @@ const ACCEPTED: &[(Line, u64, Result<&[u8], &str>)] = &[
     (Line(b"", AT_ONCE), 30000000000, Err("handshake timeout")),
 ];
 
-/// Returns whether these words are known of the connection.
+/// Returns whether these bytes are stored as `said`.
 fn knows(output: &HookOutput<Plain, Plain>, words: &[u8]) -> bool {
     match output.connection_data.get_typed::<Vec<u8>>("said") {
         Some(said) => said.as_slice() == words,
@@ -126,7 +128,7 @@ fn knows(output: &HookOutput<Plain, Plain>, words: &[u8]) -> bool {
     }
 }
 
-/// Returns whether a hook that listens and ends at this moment knows these words, or fails so.
+/// Returns whether a hook that listens and ends at this moment stores these bytes, or fails with this text.
 fn is_heard(
     alloc: Global,
     line: &Line,
@@ -149,7 +151,7 @@ fn a_server_listens(rt: HostRuntime) -> Tested {
     Ok(())
 }
 
-/// What a hook gives for a connection that a client has opened.
+/// Returns the result of a hook for a connection that a client has opened.
 fn connected<S, H: ConnectHook<S>>(
     alloc: Global,
     hook: &H,
@@ -158,7 +160,7 @@ fn connected<S, H: ConnectHook<S>>(
     hook.on_connect(alloc, stream)
 }
 
-/// Returns whether the halves stamp, and nothing is known of the connection.
+/// Returns whether the halves stamp, and the connection has no data.
 fn stamps(alloc: Global, output: HookOutput<StampOut, StampIn>) -> Result<bool, Fail> {
     let mut output = output;
     let sealed = output.outbound.transform_outbound(alloc, b"ab", b"")?;
@@ -178,7 +180,7 @@ fn is_agreed(alloc: Global) -> Result<bool, Fail> {
     }
 }
 
-/// Returns whether a hook fails if the other side wants no stamps.
+/// Returns whether a hook fails if the other side asks for no stamps.
 fn is_not_agreed(alloc: Global) -> Result<bool, Fail> {
     match connected(alloc, &Agrees {}, &Line(b"plain", AT_ONCE)) {
         Ok(_) => Ok(false),

@@ -1,5 +1,5 @@
-//! Halves that mask data. Those that bind it as well put a tag of the bytes that it is bound to into the head, and mask
-//! under a key of them.
+//! Halves that mask data. If they bind the data as well, they put a tag of the bound bytes into the head, and mask with
+//! a key that depends on those bytes.
 ghost use Rattle.std.specs.Prelude.{◌≡◌, IfOk, IfErr, OnErr};
 
 use crate::tests::secure::packet::{
@@ -10,20 +10,20 @@ use ttrpc_bench::Transformed;
 use ttrpc_secure::{ConnectionContext, InboundTransform, OutboundTransform, TransformError};
 use ttrpc_wire::Text;
 
-/// Both halves, whose heads have the algorithm's number and the length, and the tag between them if they bind. No call
+/// Both halves. Their heads have the algorithm's number and the length, with the tag between them if they bind. No call
 /// changes them.
 #[derive(Drop)]
 pub struct Masking {
     pub binds: bool,
 }
 
-/// The context of a connection with such halves.
+/// Returns the context of a connection with such halves.
 pub fn masking_context(alloc: Global, binds: bool) -> ConnectionContext<Masking, Masking> {
     ConnectionContext::of_halves(alloc, Masking { binds }, Masking { binds })
 }
 
-/// The tag of bytes: its upper byte is the first, the third and so on, each laid on the last by exclusive or, and its
-/// lower byte the others.
+/// Returns the tag of bytes. Its upper byte is the exclusive or of the first byte, the third and so on, and its lower
+/// byte is that of the others.
 fn tag_of(aad: &[u8]) -> u16 {
     let mut tag = [0; 2];
     for (place, byte) in aad.iter().enumerate() {
@@ -42,7 +42,7 @@ fn check_tag(alloc: Global, stored: u16, expected: u16) -> Result<(), TransformE
     Ok(())
 }
 
-/// The data of a packet of a half that masks alone.
+/// Returns the data of a packet of a half that only masks.
 fn unmasked(alloc: Global, packet: &[u8]) -> Transformed {
     let [a, b, c, d, e, f, masked @ ..] = packet else {
         return Err(too_short(alloc, packet.len(), 6)?);
@@ -51,7 +51,7 @@ fn unmasked(alloc: Global, packet: &[u8]) -> Transformed {
     data_of(alloc, masked, u32::from_be_bytes([*c, *d, *e, *f]), KEY)
 }
 
-/// The data of a packet of a half that binds, under these bytes.
+/// Returns the data of a packet of a half that binds them to these bytes.
 fn unbound(alloc: Global, packet: &[u8], aad: &[u8]) -> Transformed {
     let [a, b, c, d, e, f, g, h, masked @ ..] = packet else {
         return Err(too_short(alloc, packet.len(), 8)?);

@@ -1,4 +1,4 @@
-//! Packets of halves that mask, as they are written, read and refused through the context of a connection.
+//! Packets of halves that mask: they are written, read and refused through the context of a connection.
 use crate::tests::secure::context_tests::{data_frame, is_others};
 use crate::tests::secure::masking::{Masking, masking_context};
 use std::alloc::Global;
@@ -29,7 +29,8 @@ const PACKETS: &[(&[u8], &[u8])] = &[
     ),
 ];
 
-/// Packets that another half wrote, each with what it opens to. A length above that of the data takes nothing off.
+/// Packets that another half wrote, each with the data that it opens to. A length above that of the data removes
+/// nothing.
 const OTHER_PACKETS: &[(&[u8], &[u8])] = &[
     (&[0, 1, 0, 0, 0, 1, 0xa4, 0xff], &[1]),
     (&[0, 1, 0, 0, 0, 0, 0xa4, 0xa7], &[]),
@@ -37,7 +38,7 @@ const OTHER_PACKETS: &[(&[u8], &[u8])] = &[
     (&[0, 1, 0xff, 0xff, 0xff, 0xff], &[]),
 ];
 
-/// Packets that are refused, each with what is told.
+/// Packets that are refused, each with its error.
 const REFUSED: &[(&[u8], &str)] = &[
     (
         &[],
@@ -98,7 +99,7 @@ fn data_are_masked_and_unmasked(rt: HostRuntime) -> Tested {
     Ok(())
 }
 
-/// Returns whether it is a data frame of stream 1 with this payload, and with its length in the header.
+/// Returns whether it is a data frame of stream 1 with this payload, and with the payload's length in its header.
 fn carries(message: &GenMessage, payload: &[u8]) -> bool {
     let header = message.header;
     header == MessageHeader::new_data(1, header.length)
@@ -106,7 +107,7 @@ fn carries(message: &GenMessage, payload: &[u8]) -> bool {
         && message.payload.as_slice() == payload
 }
 
-/// Returns whether a message of the data becomes one of the packet, and one of the data again.
+/// Returns whether a message with the data becomes one with the packet, and then one with the data again.
 fn comes_back(
     alloc: Global,
     context: &mut Context,
@@ -130,7 +131,7 @@ fn messages_are_masked_and_unmasked(rt: HostRuntime) -> Tested {
     Ok(())
 }
 
-/// 1023 bytes, each number below 256 among them, come back.
+/// 1023 bytes come back. Each number below 256 is among them.
 #[test]
 fn long_data_come_back(rt: HostRuntime) -> Tested {
     let alloc = rt.alloc();
@@ -145,7 +146,7 @@ fn long_data_come_back(rt: HostRuntime) -> Tested {
     check(masked.len() == 1030 && masked.as_slice().starts_with(&head) && opened == data)
 }
 
-/// Returns whether the packet is refused by this reason, and a message of it stays as it was.
+/// Returns whether the packet is refused with this reason, and a message with it stays as it was.
 fn is_refused(
     alloc: Global,
     context: &mut Context,
@@ -158,7 +159,7 @@ fn is_refused(
     Ok(is_told && is_message_told && message == data_frame(alloc, 1, packet)?)
 }
 
-/// What is refused is told by its reason, and leaves a message as it was.
+/// An error has the reason of the refusal, and leaves a message as it was.
 #[test]
 fn refusals_are_told(rt: HostRuntime) -> Tested {
     let alloc = rt.alloc();

@@ -1,4 +1,5 @@
-//! Hooks, their errors and their time limit; what is known of a connection, and its context; halves that mask, and stamps.
+//! Hooks, their errors and their time limit; the data of a connection, and its context; halves that mask, and halves
+//! that stamp.
 mod binding_tests;
 mod context_tests;
 mod data_tests;

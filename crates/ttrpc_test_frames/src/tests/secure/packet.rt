@@ -1,26 +1,27 @@
-//! What packets of halves that mask have in common: a head of the algorithm's number, what the half adds, and the data's
-//! length, and behind it the data with a key on them.
+//! The common parts of packets of halves that mask: a head with the algorithm's number, the half's own part and the
+//! data's length, and then the data with a key on them.
 ghost use Rattle.std.specs.Prelude.{◌≤◌, ◌+◌, length, IfOk};
 
 use std::alloc::Global;
 use ttrpc_secure::TransformError;
 use ttrpc_wire::Text;
 
-/// The number with which each head begins, as two bytes.
+/// The number that each head begins with, as two bytes.
 pub const ALGORITHM: u16 = 1;
 
-/// Without what a half adds to a head, the key on each pair of bytes.
+/// The key on each pair of bytes, if a half adds nothing to it.
 pub const KEY: u16 = 0xa5a5;
 
-/// A packet of data under a key: its head begins so, then comes the data's length as four bytes. A byte is added where
-/// the length is odd.
+/// Returns a packet of data under a key: this start, the data's length as four bytes, and the data. A byte is added to
+/// the data if their length is odd.
 pub fn packet_of(
     alloc: Global,
     start: &[u8],
     data: &[u8],
     key: u16,
 ) -> Result<Vec<u8>, TransformError>
-    ensures { IfOk result (λ packet. length packet.items ≤ length start.now + length «data».now + 5) }
+    ensures { IfOk result
+        (λ packet. length packet.items ≤ length start.now + length «data».now + 5) }
 {
     let Ok(length) = u32::try_from(data.len()) else {
         return Err(refusal(alloc, "xor: data too long")?);
@@ -36,7 +37,7 @@ pub fn packet_of(
     Ok(packet)
 }
 
-/// The data of a packet under a key: those behind its head, but at most as many as its head says.
+/// Returns the data of a packet under a key: the bytes after its head, but at most the number that its head states.
 pub fn data_of(
     alloc: Global,
     masked: &[u8],
@@ -52,7 +53,7 @@ pub fn data_of(
     Ok(data)
 }
 
-/// Refuses a packet whose head begins with another number.
+/// Refuses a packet if its head begins with another number.
 pub fn check_algorithm(alloc: Global, algorithm: u16) -> Result<(), TransformError> {
     if algorithm != ALGORITHM {
         let why = format!(in alloc; "xor: unknown algo 0x{algorithm:04X}")?;
@@ -61,7 +62,7 @@ pub fn check_algorithm(alloc: Global, algorithm: u16) -> Result<(), TransformErr
     Ok(())
 }
 
-/// Why a packet is refused that is shorter than its head.
+/// Returns the refusal of a packet that is shorter than its head.
 pub fn too_short(
     alloc: Global,
     count: usize,

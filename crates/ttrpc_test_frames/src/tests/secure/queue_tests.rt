@@ -1,4 +1,4 @@
-//! What halves that seal queue, up to the limit and beyond it, and that refused memory changes nothing.
+//! Halves that seal, and the queue: payloads up to the limit and above it, and refused memory, which changes nothing.
 use crate::tests::secure::context_tests::{data_frame, is_others};
 use crate::tests::secure::masking::masking_context;
 use std::alloc::Global;
@@ -8,13 +8,13 @@ use ttrpc_bench::stamps;
 use ttrpc_proto::{Error, GenMessage, MESSAGE_LENGTH_MAX, MessageHeader, Outgoing};
 use ttrpc_secure::{ConnectionContext, InboundTransform, OutboundTransform};
 
-/// What is found out of a condition, where memory may be refused.
+/// The result of a condition, if memory isn't refused.
 type Found = Result<bool, Fail>;
 
-/// What the response is bound to.
+/// The bytes that the response is bound to.
 const RESPONSE: &[u8] = &[0, 0, 0, 3, 2, 0];
 
-/// Whether the call was done; it may be refused for want of memory alone.
+/// Returns whether the call succeeded. It returns false only if memory was refused, and any other error ends the test.
 fn is_done<T: Drop>(answer: ttrpc_proto::Result<T>) -> Result<bool, Fail> {
     match answer {
         Ok(_) => Ok(true),
@@ -23,7 +23,7 @@ fn is_done<T: Drop>(answer: ttrpc_proto::Result<T>) -> Result<bool, Fail> {
     }
 }
 
-/// Queues a message of these data, and returns whether that went well. Where memory is refused nothing has changed, and
+/// Queues a message with these data, and returns whether that succeeded. If memory is refused, nothing has changed, and
 /// the call is made again.
 fn sends<O: OutboundTransform, I: InboundTransform>(
     alloc: Global,
@@ -40,7 +40,7 @@ fn sends<O: OutboundTransform, I: InboundTransform>(
     Ok(is_unchanged && message == GenMessage::new(alloc))
 }
 
-/// Queues a response of these data. Where memory is refused the call is made again.
+/// Queues a response with these data. If memory is refused, the call is made again.
 fn send_response<O: OutboundTransform, I: InboundTransform>(
     alloc: Global,
     context: &mut ConnectionContext<O, I>,
@@ -54,7 +54,7 @@ fn send_response<O: OutboundTransform, I: InboundTransform>(
     Ok(())
 }
 
-/// Returns whether the queue has this frame first, and takes that from it.
+/// Returns whether this frame is the first in the queue, and takes it from the queue.
 fn leaves(outgoing: &mut Outgoing, frame: &[u8]) -> bool {
     let mut buffer = [0; 64];
     let count = outgoing.lend(&mut buffer);
@@ -86,7 +86,7 @@ const BOUND: &[&[u8]] = &[
     ],
 ];
 
-/// The stamps go on by one.
+/// Each stamp is one more than the one before.
 const STAMPED: &[&[u8]] = &[
     &[0, 0, 0, 3, 0, 0, 0, 1, 3, 0, 0x68, 0x69, 0],
     &[0, 0, 0, 3, 0, 0, 0, 3, 2, 0, 0x68, 0x69, 1],
@@ -98,13 +98,13 @@ fn is_queued<O: OutboundTransform, I: InboundTransform>(
     context: &mut ConnectionContext<O, I>,
     frames: &[&[u8]],
 ) -> Found {
-    let mut outgoing = Outgoing::new(alloc);
+    let mut outgoing = Outgoing::new(alloc)?;
     let is_sent = sends(alloc, context, &mut outgoing, b"hi")?;
     send_response(alloc, context, &mut outgoing, b"hi")?;
     Ok(is_sent && has(&mut outgoing, frames))
 }
 
-/// Returns whether halves that mask queue these frames, by whether they bind.
+/// Returns whether halves that mask, and bind or not, queue these frames.
 fn masking_queues(alloc: Global, binds: bool, frames: &[&[u8]]) -> Found {
     let mut masking = masking_context(alloc, binds);
     is_queued(alloc, &mut masking, frames)
@@ -127,7 +127,7 @@ fn sealed_frames_are_queued_in_order(rt: HostRuntime) -> Tested {
     )
 }
 
-/// Returns whether a message that is sealed and opened comes back. Where memory is refused nothing has changed, and the
+/// Returns whether a message that is sealed and opened comes back. If memory is refused, nothing has changed, and the
 /// call is made again.
 fn comes_back<O: OutboundTransform, I: InboundTransform>(
     alloc: Global,
@@ -145,7 +145,7 @@ fn comes_back<O: OutboundTransform, I: InboundTransform>(
     Ok(is_unchanged && message == data_frame(alloc, 3, b"abc")?)
 }
 
-/// Returns whether a message comes back through halves that mask, by whether they bind.
+/// Returns whether a message comes back through halves that mask, and bind or not.
 fn comes_back_masked(alloc: Global, binds: bool) -> Found {
     let mut masking = masking_context(alloc, binds);
     comes_back(alloc, &mut masking)
@@ -168,7 +168,7 @@ fn messages_come_back(rt: HostRuntime) -> Tested {
     )
 }
 
-/// Returns whether data of the limit are sealed to the longest message by each call that seals.
+/// Returns whether data at the limit are sealed to the longest message by each call that seals.
 fn is_longest<O: OutboundTransform, I: InboundTransform>(
     alloc: Global,
     context: &mut ConnectionContext<O, I>,
@@ -181,22 +181,22 @@ fn is_longest<O: OutboundTransform, I: InboundTransform>(
     Ok(is_sealed && message.header.length == 4194304 && is_longest_queued(alloc, context, data)?)
 }
 
-/// The same of the calls that queue.
+/// Returns the same for the calls that queue.
 fn is_longest_queued<O: OutboundTransform, I: InboundTransform>(
     alloc: Global,
     context: &mut ConnectionContext<O, I>,
     data: &[u8],
 ) -> Found {
-    let mut sent = Outgoing::new(alloc);
+    let mut sent = Outgoing::new(alloc)?;
     let mut message = data_frame(alloc, 0, data)?;
     context.transform_send(alloc, &mut message, &mut sent)?;
-    let mut answered = Outgoing::new(alloc);
+    let mut answered = Outgoing::new(alloc)?;
     let header = MessageHeader::new_response(3, 0);
     context.send_response_sync(alloc, data, RESPONSE, &mut answered, header)?;
     Ok(sent.open_len() == 4194314 && answered.open_len() == 4194314)
 }
 
-/// Returns whether data above the limit are refused by each call that seals, in its text.
+/// Returns whether data above the limit are refused by each call that seals, each with its text.
 fn is_too_long<O: OutboundTransform, I: InboundTransform>(
     alloc: Global,
     context: &mut ConnectionContext<O, I>,
@@ -213,20 +213,20 @@ fn is_too_long<O: OutboundTransform, I: InboundTransform>(
     )
 }
 
-/// Returns whether a response above the limit is refused in this text, and not queued.
+/// Returns whether a response above the limit is refused with this text, and not queued.
 fn is_not_answered<O: OutboundTransform, I: InboundTransform>(
     alloc: Global,
     context: &mut ConnectionContext<O, I>,
     data: &[u8],
     told: &str,
 ) -> Found {
-    let mut outgoing = Outgoing::new(alloc);
+    let mut outgoing = Outgoing::new(alloc)?;
     let header = MessageHeader::new_response(3, 0);
     let refused = context.send_response_sync(alloc, data, RESPONSE, &mut outgoing, header);
     Ok(is_others(&refused, told)? && outgoing.is_empty())
 }
 
-/// Returns whether a message above the limit is refused in this text, and left as it was.
+/// Returns whether a message above the limit is refused with this text, and left as it was.
 fn is_left<O: OutboundTransform, I: InboundTransform>(
     alloc: Global,
     context: &mut ConnectionContext<O, I>,
@@ -239,7 +239,7 @@ fn is_left<O: OutboundTransform, I: InboundTransform>(
     Ok(is_told && message == data_frame(alloc, 0, data)?)
 }
 
-/// The same where it would be queued.
+/// Returns the same for the call that queues a message.
 fn is_not_queued<O: OutboundTransform, I: InboundTransform>(
     alloc: Global,
     context: &mut ConnectionContext<O, I>,
@@ -247,7 +247,7 @@ fn is_not_queued<O: OutboundTransform, I: InboundTransform>(
     advised: &str,
 ) -> Found {
     let mut message = data_frame(alloc, 0, data)?;
-    let mut outgoing = Outgoing::new(alloc);
+    let mut outgoing = Outgoing::new(alloc)?;
     let refused = context.transform_send(alloc, &mut message, &mut outgoing);
     let is_told = is_others(&refused, advised)?;
     Ok(is_told && message == data_frame(alloc, 0, data)?)
@@ -265,12 +265,12 @@ const BOUND_TOLD: &str =
 const BOUND_ADVISED: &str =
     "payload 4194296 bytes exceeds safe limit 4194295 bytes (MESSAGE_LENGTH_MAX - transform overhead); reduce payload size";
 
-/// So many bytes. A proof knows nothing of them, so it computes no list of that length.
+/// Returns `length` bytes 7. The function hides the bytes from proofs, so that no proof computes a list of that length.
 fn sevens(alloc: Global, length: usize) -> Result<Vec<u8>, Fail> {
     Ok(vec![in alloc; 7; length]?)
 }
 
-/// Returns whether halves that mask take so many bytes at most, and tell so of one more.
+/// Returns whether halves that mask take at most `limit` bytes, and report one byte more.
 fn has_limit(alloc: Global, binds: bool, limit: usize, told: &str, advised: &str) -> Found {
     let mut context = masking_context(alloc, binds);
     let longest = sevens(alloc, limit)?;
@@ -282,7 +282,7 @@ fn has_limit(alloc: Global, binds: bool, limit: usize, told: &str, advised: &str
     )
 }
 
-/// A packet is to fit into a message with its head and the byte that makes its length even.
+/// A packet fits into a message together with its head and the byte that makes its length even.
 #[test]
 fn room_is_left_for_the_head(rt: HostRuntime) -> Tested {
     let alloc = rt.alloc();

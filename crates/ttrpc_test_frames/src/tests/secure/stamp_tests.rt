@@ -1,20 +1,20 @@
-//! Stamps as they are written, refused and counted.
+//! Stamps that are written, refused and counted.
 use std::alloc::Global;
 use std::test::Fail;
 use ttrpc_bench::checks::{Tested, check, check_row};
 use ttrpc_bench::{StampIn, StampOut, Transformed, stamps};
 use ttrpc_proto::{GenMessage, MessageHeader, Outgoing, Queued};
-use ttrpc_secure::sending::{SendError, send};
+use ttrpc_secure::sending::{Parts, SendError, send};
 use ttrpc_secure::{InboundTransform, OutboundTransform, TransformError};
 use ttrpc_wire::Blob;
 
-/// Returns whether a half made this of its data.
+/// Returns whether these bytes are the result of a half.
 fn is(made: Transformed, expected: &[u8]) -> Result<bool, Fail> {
     let made = made?;
     Ok(made.as_slice() == expected)
 }
 
-/// Returns whether the half refuses the data, and says why.
+/// Returns whether the half refuses the data with the reason "bad stamp".
 fn refuses<I: InboundTransform>(alloc: Global, half: &mut I, data: &[u8]) -> Result<bool, Fail> {
     match half.transform_inbound(alloc, data, &[]) {
         Err(TransformError::Refused(text)) => Ok(text.as_str() == "bad stamp"),
@@ -28,7 +28,7 @@ fn opens(alloc: Global, half: &mut StampIn, sealed: &[u8], data: &[u8]) -> Resul
     is(half.transform_inbound(alloc, sealed, &[]), data)
 }
 
-/// Returns whether the data are sealed to these, which are opened to the data.
+/// Returns whether the data are sealed to these bytes, and these open to the data.
 fn crosses(
     alloc: Global,
     halves: (&mut StampOut, &mut StampIn),
@@ -40,7 +40,7 @@ fn crosses(
     Ok(is_sealed && opens(alloc, inbound, sealed, data)?)
 }
 
-/// Data, and what they are sealed to one after the other.
+/// Data, and the bytes that they are sealed to one after the other.
 const FRAMES: &[(&[u8], &[u8])] = &[(b"one", b"one\x00"), (b"two", b"two\x01"), (b"", b"\x02")];
 
 #[test]
@@ -91,7 +91,7 @@ fn request(alloc: Global, stream_id: u32) -> Queued {
     }
 }
 
-/// The frame was sent, or why it wasn't.
+/// Returns an error that says why a frame wasn't sent, if it wasn't.
 fn sent(outcome: Result<(), SendError>) -> Tested {
     match outcome {
         Ok(()) => Ok(()),
@@ -110,17 +110,16 @@ fn leaves(outgoing: &mut Outgoing, expected: &[u8]) -> bool {
     is_frame
 }
 
-/// Where memory was refused, nothing is queued, and the half has counted nothing.
+/// If memory was refused, nothing is queued, and the half has counted nothing.
 #[test]
 fn a_refused_frame_is_not_counted(rt: HostRuntime) -> Tested {
     let alloc = rt.alloc();
     let (mut half, _) = stamps();
-    let mut outgoing = Outgoing::new(alloc);
-    let data = vec![in alloc; 7]?;
+    let mut outgoing = Outgoing::new(alloc)?;
+    let data = Parts::whole(b"\x07");
     let mut is_unchanged = true;
     if send(alloc, &mut half, &mut outgoing, request(alloc, 1), data).is_err() {
         let is_empty = outgoing.is_empty();
-        let data = vec![in alloc; 7]?;
         let again = send(alloc, &mut half, &mut outgoing, request(alloc, 1), data);
         is_unchanged = is_empty && again.is_ok();
     }
@@ -133,17 +132,18 @@ const FIRST: &[u8] =
 const SECOND: &[u8] =
     b"\0\0\0\x19\0\0\0\x03\x01\0\x0a\x09demo.Echo\x12\x04Echo\x1a\x03\x01\x02\x03\x20\x0a\x01";
 
-/// Two requests with one payload leave under the stamps 0 and 1, and their headers count the stamps.
+/// Two requests with the same payload leave with the stamps 0 and 1, and the lengths in their headers include the
+/// stamps.
 #[test]
 fn frames_are_sealed_as_they_are_queued(rt: HostRuntime) -> Tested {
     let alloc = rt.alloc();
     let data = b"\x0a\x09demo.Echo\x12\x04Echo\x1a\x03\x01\x02\x03\x20\x0a";
     let (mut half, _) = stamps();
-    let mut outgoing = Outgoing::new(alloc);
+    let mut outgoing = Outgoing::new(alloc)?;
     for stream_id in [1, 3] {
         let request = request(alloc, stream_id);
-        let data = Vec::from_slice(alloc, data)?;
-        sent(send(alloc, &mut half, &mut outgoing, request, data))?;
+        let parts = Parts::whole(data);
+        sent(send(alloc, &mut half, &mut outgoing, request, parts))?;
     }
     check(leaves(&mut outgoing, FIRST) && leaves(&mut outgoing, SECOND))
 }

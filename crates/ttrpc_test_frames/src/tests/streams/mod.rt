@@ -1,5 +1,5 @@
-//! The tests of readers and writers of headers, frames and messages: rows of what is read, with what each reader tells
-//! of it, and rows of what is written, with the offers that are made.
+//! The tests of readers and writers of headers, frames and messages. They have rows of bytes that are read, with the
+//! result of each reader, and rows of messages that are written, with the offers that are made.
 
 mod reading_tests;
 mod recorder;

@@ -1,4 +1,4 @@
-//! Each row is read by each reader, from a source that gives it at once, byte by byte, or interrupted.
+//! Each row is read by each reader, from a source that gives it at once, byte by byte, or with interruptions.
 use crate::tests::streams::rows::{MANNERS, Parts, REQUEST, REQUEST_HEADER, ROWS, Reads, Row};
 use std::alloc::Global;
 use std::io::ErrorKind;
@@ -8,13 +8,13 @@ use ttrpc_bench::{AT_ONCE, Giver, Manner};
 use ttrpc_message::{Message, read_message};
 use ttrpc_proto::{Error, GenMessage, GenMessageError, MessageHeader, Request};
 
-/// A long row comes in some thousand steps at least.
+/// Returns a reader of the row. A long row comes in at most about a thousand steps.
 fn giver_of(row: &Row, manner: Manner) -> Giver<'static> {
     let step = manner.step.max(row.zeros / 1000);
     Giver::with_zeros(row.head, row.zeros, row.tail, Manner { step, ..manner })
 }
 
-/// Whether the error is a status INVALID_ARGUMENT of this text.
+/// Returns whether the error is a status INVALID_ARGUMENT with this text.
 fn refuses(error: &Error, text: &str) -> bool {
     matches!(error, Error::RpcStatus(status) if status.code == 3 && status.message.as_str() == text)
 }
@@ -23,7 +23,7 @@ fn is_gone(error: &Error, text: &str) -> bool {
     matches!(error, Error::Socket(told) if told.as_str() == text)
 }
 
-/// Whether what was read as parts is what the row says.
+/// Returns whether the parts that were read are those of the row.
 fn are_parts(
     row: &Row,
     read: &ttrpc_proto::Result<(MessageHeader, ttrpc_proto::Result<Vec<u8>>)>,
@@ -42,7 +42,7 @@ fn are_parts(
     }
 }
 
-/// Whether memory was refused, for the message or for the text that is told with its header.
+/// Returns whether memory was refused, for the message or for the text that is returned with its header.
 fn is_refused(read: &Result<GenMessage, GenMessageError>) -> bool {
     matches!(
         read,
@@ -53,7 +53,7 @@ fn is_refused(read: &Result<GenMessage, GenMessageError>) -> bool {
     )
 }
 
-/// Whether what was read as a message is what the row says.
+/// Returns whether the message that was read is that of the row.
 fn is_message(row: &Row, read: &Result<GenMessage, GenMessageError>) -> bool {
     match (row.reads, read) {
         (Reads::Broken, Err(GenMessageError::InternalError(Error::Socket(_)))) => true,
@@ -68,7 +68,7 @@ fn is_message(row: &Row, read: &Result<GenMessage, GenMessageError>) -> bool {
     }
 }
 
-/// Whether what was read as a value is what the row says: its written form is that of the row.
+/// Returns whether the value that was read is that of the row: its written form is the row's.
 fn is_value(
     alloc: Global,
     row: &Row,
@@ -140,7 +140,7 @@ fn broken_behind(count: usize) -> Manner {
     AT_ONCE.ending(count, Some(ErrorKind::ConnectionReset))
 }
 
-/// A request whose reader fails behind so many bytes.
+/// Returns a row of a request with a reader that fails after `count` bytes.
 fn failing_behind(count: usize) -> Row {
     Row {
         name: "a reader that fails",
@@ -164,7 +164,7 @@ fn a_reader_fails_at_each_place(rt: HostRuntime) -> Tested {
     Ok(())
 }
 
-/// Inside the body of a message that is too long.
+/// A reader fails inside the body of a message that is too long.
 #[test]
 fn a_reader_fails_in_what_is_thrown_away(rt: HostRuntime) -> Tested {
     let row = Row {
@@ -177,7 +177,7 @@ fn a_reader_fails_in_what_is_thrown_away(rt: HostRuntime) -> Tested {
     check(reads(rt.alloc(), &row, broken_behind(10000))?)
 }
 
-/// The kind with which such a reader of a header fails.
+/// Returns the kind of a header reader's error in this manner.
 fn kind_of(manner: Manner) -> ErrorKind {
     if manner.behind.is_some() {
         ErrorKind::ConnectionReset
@@ -186,7 +186,7 @@ fn kind_of(manner: Manner) -> ErrorKind {
     }
 }
 
-/// Returns whether so many bytes of a request read as its header, or fail as they should.
+/// Returns whether the first `count` bytes of a request are read as its header, or fail as expected.
 fn reads_header(count: usize, manner: Manner) -> bool {
     let mut giver = Giver::new(&REQUEST[..count.min(30)], manner);
     let read = MessageHeader::read_from(&mut giver);

@@ -1,5 +1,4 @@
-//! A writer that keeps every call that was made of it, with its answer, and what the contracts of the writers come to
-//! over it.
+//! A writer that records each call with its answer, and the contracts of the writers over it.
 ghost use Rattle.std.specs.Prelude.{◌≡◌, ◌++◌, [], ◌∷◌, map, Some};
 ghost use Rattle.std.specs.Option.{option_map_or};
 ghost use Rattle.ttrpc_proto.specs.Framing.Streams.{Flushed, Offered, answered_kind};
@@ -11,10 +10,10 @@ use ttrpc_bench::Receiver;
 use ttrpc_proto::Sink;
 use ttrpc_wire::Blob;
 
-/// The bytes that were offered, or none for a flush, and the answer.
+/// The offered bytes, or `None` for a flush, and the answer.
 pub type Kept = (Option<Blob>, Result<usize, ErrorKind>);
 
-/// Takes bytes as a receiver does. Where it finds no memory to keep a call, it ends the test.
+/// A writer that takes bytes as a `Receiver` does. If there is no memory to record a call, it aborts the test.
 #[derive(Drop)]
 pub struct Recorder<'a, X> {
     pub rt: &'a X,
@@ -32,8 +31,8 @@ impl<X: Abort> Recorder<'_, X> {
 }
 
 impl<X: Abort> Sink for Recorder<'_, X> {
-    ghost calls = { λ r. Some (map (λ call. option_map_or
-        (λ bytes. Offered bytes (answered_kind call.1)) call.0 (Flushed (answered_kind call.1))) r.kept.items) };
+    ghost calls = { λ r. Some (map (λ call. option_map_or (λ bytes. Offered bytes
+        (answered_kind call.1)) call.0 (Flushed (answered_kind call.1))) r.kept.items) };
 
     #[tactic(auto, using(std::proofs::lemmas::Grind::common_steps))]
     fn write(&mut self, bytes: &[u8]) -> io::Result<usize> {

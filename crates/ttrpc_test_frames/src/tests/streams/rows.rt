@@ -1,8 +1,8 @@
-//! What is read, with what each reader tells of it. A frame's layout is that of PROTOCOL.md of ttrpc.
+//! The bytes that are read, with the result of each reader. The layout of a frame is that of PROTOCOL.md of ttrpc.
 use ttrpc_bench::{AT_ONCE, Manner};
 use ttrpc_proto::MessageHeader;
 
-/// How what is read comes, and how what is written is taken.
+/// How the bytes that are read come, and how the bytes that are written are taken.
 pub const MANNERS: &[Manner] = &[
     AT_ONCE,
     Manner { step: 7, ..AT_ONCE },
@@ -14,27 +14,27 @@ pub const MANNERS: &[Manner] = &[
     },
 ];
 
-/// What `read_message` tells.
+/// The result of `read_message`.
 #[derive(Clone, Copy)]
 pub enum Parts {
-    /// `Socket` of this text.
+    /// `Socket` with this text.
     Gone(&'static str),
-    /// A status INVALID_ARGUMENT of this text.
+    /// A status INVALID_ARGUMENT with this text.
     Refused(&'static str),
-    /// `Socket` of any text.
+    /// `Socket` with any text.
     Broken,
-    /// The header, and a status INVALID_ARGUMENT of this text in place of the payload.
+    /// The header, and a status INVALID_ARGUMENT with this text in place of the payload.
     TooLong(&'static str),
     /// The header and the payload.
     Whole,
 }
 
-/// What a message reads as.
+/// The result of reading a message or a value.
 #[derive(Clone, Copy, PartialEq, Eq)]
 pub enum Reads {
     /// A socket's error.
     Broken,
-    /// It is too long: that is returned as a message, and no bytes stand for it as a value.
+    /// The message is too long. A message reader returns that error with the header, and a value has no bytes.
     TooLong,
     /// A message and a value.
     Whole,
@@ -42,7 +42,7 @@ pub enum Reads {
     Unreadable,
 }
 
-/// Bytes with zeros behind them, and then others; what is told of them, and how many of them aren't read.
+/// Bytes, then zeros, and then other bytes; the results of reading them, and the number of bytes that aren't read.
 #[derive(Clone, Copy)]
 pub struct Row {
     pub name: &'static str,

@@ -8,7 +8,7 @@ use ttrpc_message::{Message, read_message};
 use ttrpc_proto::{Error, GenMessage, MessageHeader, Request};
 use ttrpc_wire::{Blob, Sequence, Text, TryClone};
 
-/// Returns whether this is `Others` of the text.
+/// Returns whether this is `Others` with the text.
 fn is_others(answer: &ttrpc_proto::Result<Message<Request>>, told: &str) -> Result<bool, Fail> {
     match answer {
         Err(Error::NoMemory) => Err(Error::NoMemory.into()),
@@ -17,7 +17,7 @@ fn is_others(answer: &ttrpc_proto::Result<Message<Request>>, told: &str) -> Resu
     }
 }
 
-/// The request as a value.
+/// Returns the request as a value.
 fn request_read(alloc: Global) -> Result<Message<Request>, Fail> {
     let mut giver = Giver::new(REQUEST, AT_ONCE);
     Ok(Message::<Request>::read_from(alloc, &mut giver)?)
@@ -39,7 +39,7 @@ fn a_request_goes_round(rt: HostRuntime) -> Tested {
     check(is_read && is_made && are_parts_read(alloc)?)
 }
 
-/// Returns whether its frame has the bytes of the request, and makes it again.
+/// Returns whether the request's frame has the right bytes, and makes the request again.
 fn is_made_again(alloc: Global, message: Message<Request>) -> Result<bool, Fail> {
     let copy = message.try_clone()?;
     let written = message.into_gen(alloc)?;
@@ -68,7 +68,7 @@ fn request_of(alloc: Global, count: usize) -> Result<Request, Fail> {
     })
 }
 
-/// Tag and length of the payload take five bytes.
+/// The tag and the length of the payload take five bytes.
 #[test]
 fn a_request_is_too_long(rt: HostRuntime) -> Tested {
     let alloc = rt.alloc();
@@ -90,7 +90,7 @@ fn a_payload_means_nothing(rt: HostRuntime) -> Tested {
     check(is_others(&answer, told)?)
 }
 
-/// The greatest message is read whole, and what follows it is left.
+/// The greatest message is read whole, and the bytes after it are left.
 #[test]
 fn a_greatest_message_is_read(rt: HostRuntime) -> Tested {
     let head = b"\0\x40\0\0\0\0\0\x05\x01\0";

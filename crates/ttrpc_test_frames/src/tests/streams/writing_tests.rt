@@ -1,4 +1,4 @@
-//! Each writer writes messages to a sink that takes them at once, byte by byte, interrupted, or not whole.
+//! Each writer writes messages to a sink that takes them at once, byte by byte, with interruptions, or only in part.
 use crate::tests::streams::recorder::{Kept, Recorder};
 use crate::tests::streams::rows::{MANNERS, REQUEST, REQUEST_HEADER, REQUEST_PAYLOAD};
 use std::alloc::Global;
@@ -10,7 +10,7 @@ use ttrpc_message::{Message, write_message};
 use ttrpc_proto::{Error, GenMessage, MessageHeader, Request, Result as Answer};
 use ttrpc_wire::Blob;
 
-/// The three writers of messages, and whether each flushes.
+/// The three writers of messages.
 #[derive(Clone, Copy, PartialEq, Eq)]
 enum Writer {
     Parts,
@@ -20,7 +20,7 @@ enum Writer {
 
 const WRITERS: &[Writer] = &[Writer::Parts, Writer::Message, Writer::Value];
 
-/// The request, written by one of them.
+/// Writes the request by one of them.
 fn write_by(alloc: Global, writer: Writer, receiver: &mut Receiver) -> Result<Answer<()>, Fail> {
     let message = GenMessage {
         header: REQUEST_HEADER,
@@ -42,7 +42,7 @@ fn write_by(alloc: Global, writer: Writer, receiver: &mut Receiver) -> Result<An
     })
 }
 
-/// Returns whether the receiver got these bytes, and so many flushes.
+/// Returns whether the receiver got these bytes, and this number of flushes.
 fn got(receiver: &Receiver, bytes: &[u8], flushes: usize) -> bool {
     receiver.taken.as_slice() == bytes && receiver.flushes == flushes
 }
@@ -65,7 +65,7 @@ fn a_request_is_written(rt: HostRuntime) -> Tested {
     Ok(())
 }
 
-/// Returns whether the answer is a socket's error, of the right text where the writer of parts writes nothing.
+/// Returns whether the answer is a socket's error. If a write took nothing, the writer of parts must give the right text.
 fn is_broken(writer: Writer, behind: Option<ErrorKind>, answer: Answer<()>) -> Result<bool, Fail> {
     match answer {
         Err(Error::Socket(text)) => Ok(
@@ -78,7 +78,7 @@ fn is_broken(writer: Writer, behind: Option<ErrorKind>, answer: Answer<()>) -> R
     }
 }
 
-/// Returns whether a writer that fails or takes nothing after so many bytes has got those, and nothing behind them.
+/// Returns whether a writer that fails or takes nothing after `count` bytes has got those, and nothing after them.
 fn breaks_behind(
     alloc: Global,
     writer: Writer,
@@ -128,7 +128,7 @@ fn a_failed_flush_is_an_error(rt: HostRuntime) -> Tested {
     Ok(())
 }
 
-/// Returns whether a writer that takes all gets these offers of a payload of so many bytes.
+/// Returns whether a writer that takes all bytes gets these offers for a payload of `count` bytes.
 fn is_offered(alloc: Global, count: usize, offers: &[usize]) -> Result<bool, Fail> {
     let mut payload = Vec::new(alloc);
     payload.resize(count, 7)?;
@@ -154,7 +154,7 @@ const OFFERS: &[(usize, &[usize])] = &[
     (4087, &[4096, 1]),
 ];
 
-/// A page has the header and 4086 bytes. The header stands as it was handed in.
+/// A page has the header and 4086 bytes. The header is written as it was passed in.
 #[test]
 fn a_page_is_offered_first(rt: HostRuntime) -> Tested {
     for (at, (count, offers)) in OFFERS.iter().enumerate() {
@@ -163,7 +163,7 @@ fn a_page_is_offered_first(rt: HostRuntime) -> Tested {
     Ok(())
 }
 
-/// The lengths of the offers that a recorder kept, and 0 for a flush.
+/// Returns the lengths of the offers that a recorder kept, with 0 for a flush.
 fn lengths(alloc: Global, kept: &[Kept]) -> Result<Vec<usize>, Fail> {
     let mut lengths = Vec::new(alloc);
     for (offered, _) in kept {
@@ -172,7 +172,7 @@ fn lengths(alloc: Global, kept: &[Kept]) -> Result<Vec<usize>, Fail> {
     Ok(lengths)
 }
 
-/// A message of 5000 bytes, flushed once behind both offers.
+/// A message of 5000 bytes is flushed once, after both offers.
 #[test]
 fn a_flush_comes_last(rt: HostRuntime) -> Tested {
     let alloc = rt.alloc();
@@ -193,7 +193,7 @@ fn a_flush_comes_last(rt: HostRuntime) -> Tested {
     check(offers.as_slice() == [4096, 914, 0].as_slice())
 }
 
-/// Returns whether a header is offered and written alone, and flushed.
+/// Returns whether a header is offered and written alone, and then flushed.
 fn writes_header(alloc: Global, manner: Manner) -> Result<bool, Fail> {
     let mut receiver = Receiver::new(alloc, manner)?;
     REQUEST_HEADER.write_to(&mut receiver)?;
@@ -201,7 +201,7 @@ fn writes_header(alloc: Global, manner: Manner) -> Result<bool, Fail> {
     Ok(offered == Some(10) && got(&receiver, &REQUEST[..10], 1))
 }
 
-/// Returns whether a failed flush behind a header is an error.
+/// Returns whether a failed flush after a header is an error.
 fn fails_to_flush(alloc: Global) -> Result<bool, Fail> {
     let mut failing = Receiver::new(alloc, UNFLUSHED)?;
     match REQUEST_HEADER.write_to(&mut failing) {
@@ -218,7 +218,7 @@ fn a_header_is_written_alone(rt: HostRuntime) -> Tested {
     check(fails_to_flush(rt.alloc())?)
 }
 
-/// A flush of a writer of std's is handed on.
+/// The flush of a writer of std is passed on.
 #[test]
 fn a_writer_of_std_is_flushed(rt: HostRuntime) -> Tested {
     let mut writer = StdWriter::new(rt.alloc(), AT_ONCE)?;
