@@ -1,4 +1,4 @@
--- When parts that run side by side may be polled, and for what each waits.
+-- When parts that run side by side may be polled, and the sources that each waits for.
 -- Source: this project's.
 use Rattle.std.specs.Prelude.{ℕ}
 use Rattle.futures.specs.Queued.{AllPollable, set_places}
@@ -6,13 +6,13 @@ use Rattle.ttrpc_bench_polled.specs.declared.parts.Part.{Part}
 use Rattle.ttrpc_bench_polled.specs.declared.parts.Part.TheVariants.{Does, Goes, Lasts}
 use Rattle.ttrpc_bench_polled.specs.declared.parts.Parts.{Parts}
 
--- a part may be polled where what it is may be
+-- a part may be polled if its future may be
 abbrev pub PartCanPoll : {D E : Type 0} → (D → Type 0) → (E → Type 0) → Part D E → Type 0
 PartCanPoll does goes (Does d) = does d
 PartCanPoll does goes (Goes e) = goes e
 PartCanPoll does goes (Lasts e) = goes e
 
--- it waits for what it is
+-- the part waits for the sources of its future
 abbrev pub PartNeeds : {D E : Type 0} → (D → ℕ → Type 0) → (E → ℕ → Type 0) → Part D E → ℕ → Type 0
 PartNeeds does goes (Does d) s = does d s
 PartNeeds does goes (Goes e) s = goes e s

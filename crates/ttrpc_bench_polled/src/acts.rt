@@ -1,4 +1,4 @@
-//! What a client does, one act after the other, and what comes of each.
+//! The acts of a client, one after the other, and the result of each.
 ghost use Rattle.futures.specs.Poll.{OnPending};
 ghost use Rattle.futures.specs.Task.{IsArmed, Keeps};
 
@@ -12,41 +12,42 @@ use ttrpc_proto::{Request, RequestInit, Result};
 use ttrpc_secure::Plain;
 use ttrpc_wire::Blob;
 
-/// What comes of a call, or of a receipt: its bytes, or the text of its error.
+/// The expected result of a call or a receipt: its bytes, or the text of its error.
 pub type Outcome = std::result::Result<&'static [u8], &'static str>;
 
-/// An act of a client. Its calls and its streams have numbers from 0, in the order in which they come.
+/// An act of a client. Its calls and its streams have numbers from 0, in the order of their creation.
 #[derive(Clone, Copy, Debug)]
 pub enum Act {
-    /// There is a call of this method, with this payload and this limit in nanoseconds.
+    /// Makes a call of this method, with this payload and this timeout in nanoseconds.
     Calls(&'static str, &'static [u8], i64),
-    /// There is a call of `Echo` with so many bytes, each of them 7.
+    /// Makes a call of `Echo` with this number of bytes 7.
     CallsLong(usize),
-    /// The call of this number ends by so many such bytes.
+    /// The call with this number ends with that number of bytes 7.
     EndsLong(usize, usize),
-    /// The call of this number begins, and isn't over at once.
+    /// The call with this number begins, and doesn't end at once.
     Begins(usize),
-    /// The call of this number ends so.
+    /// The call with this number ends with this outcome.
     Ends(usize, Outcome),
-    /// The call of this number is dropped.
+    /// Drops the call with this number.
     Forgets(usize),
-    /// A stream of this name is opened, with this payload. Whether the client sends on it, and whether the server does.
+    /// Opens a stream with this name and this payload. The first flag is true if the client sends on it, and the second
+    /// is true if the server does.
     Opens(&'static str, &'static [u8], bool, bool),
-    /// This item is sent on the stream of this number, or is refused by this text.
+    /// Sends this item on the stream with this number. If a text is given, that is refused with it.
     Sends(usize, &'static [u8], Option<&'static str>),
-    /// The stream of this number is closed, or that is refused by this text.
+    /// Closes the stream with this number. If a text is given, that is refused with it.
     Closes(usize, Option<&'static str>),
-    /// This is received from the stream of this number.
+    /// Receives this outcome from the stream with this number.
     Receives(usize, Outcome),
-    /// Nothing is there to be received from the stream of this number, and who asked asks no more.
+    /// Polls once for an item of the stream with this number, gets none, and drops the future.
     Asks(usize),
-    /// The stream of this number is dropped.
+    /// Drops the stream with this number.
     Leaves(usize),
-    /// So often the other parts go on.
+    /// Lets the other parts go on this number of times.
     Yields(u32),
 }
 
-/// A client that does its acts. Ready: the first that came to something else, or none.
+/// A client that does its acts. Ready with the first fault, or with `None` when all acts are done.
 #[derive(Drop)]
 pub struct Script<'a, R: Timed> {
     client: Client<R, Plain, Plain>,
@@ -59,7 +60,7 @@ pub struct Script<'a, R: Timed> {
 }
 
 impl<'a, R: Timed> Script<'a, R> {
-    /// The acts of this client.
+    /// Returns the script of this client's acts.
     pub fn new(client: Client<R, Plain, Plain>, acts: &'a [Act]) -> Script<'a, R> {
         let alloc = client.alloc();
         Script {
@@ -79,7 +80,7 @@ impl<'a, R: Timed> Script<'a, R> {
         self.at = 0;
     }
 
-    /// Goes on with an act. Ready: whether it came to what was stated.
+    /// Goes on with an act. Ready with true if the act came out as expected.
     fn poll_act(&mut self, act: Act, cx: &mut Context<'_>) -> Poll<bool>
         ensures registered { OnPending result (IsArmed cx.new) }
         ensures kept { Keeps cx.old cx.new }
@@ -281,7 +282,7 @@ impl<'a, R: Timed> Script<'a, R> {
     }
 }
 
-/// How many acts are done at most before other parts go on.
+/// The number of acts that are done at most before other parts go on.
 const TURNS: u32 = 64;
 
 impl<R: Timed> Future for Script<'_, R> {
@@ -303,7 +304,7 @@ impl<R: Timed> Future for Script<'_, R> {
     }
 }
 
-/// A request of `demo.Echo` for this name, with this payload and this limit in nanoseconds.
+/// Returns a request of `demo.Echo` for this name, with this payload and this timeout in nanoseconds.
 pub fn request(alloc: Global, name: &str, payload: &[u8], limit: i64) -> Result<Request> {
     let service = String::from_str(alloc, "demo.Echo")?;
     let name = String::from_str(alloc, name)?;
@@ -312,7 +313,7 @@ pub fn request(alloc: Global, name: &str, payload: &[u8], limit: i64) -> Result<
     Ok(request)
 }
 
-/// The item, to be sent.
+/// Returns the state of sending this item, or `None` if memory is refused.
 fn sending_of(alloc: Global, item: &[u8]) -> Option<Sending> {
     match Blob::from_slice(alloc, item) {
         Ok(item) => Some(Sending::Sends(item)),
@@ -320,7 +321,7 @@ fn sending_of(alloc: Global, item: &[u8]) -> Option<Sending> {
     }
 }
 
-/// Whether these are the bytes, or the error of this text.
+/// Returns whether the result is the expected bytes, or an error with the expected text.
 pub fn is_so(alloc: Global, given: Result<Blob>, expected: Outcome) -> bool {
     match (given, expected) {
         (Ok(given), Ok(bytes)) => given.as_slice() == bytes,
@@ -332,12 +333,12 @@ pub fn is_so(alloc: Global, given: Result<Blob>, expected: Outcome) -> bool {
     }
 }
 
-/// Whether these are so many bytes, each of them 7.
+/// Returns whether the payload is `length` bytes 7.
 fn is_long(payload: &Blob, length: usize) -> bool {
     payload.len() == length && payload.as_slice().iter().all(|byte| *byte == 7)
 }
 
-/// Whether it was sent, or refused by this text.
+/// Returns whether sending succeeded, or was refused with this text if one is given.
 fn is_sent(alloc: Global, sent: Result<()>, refusal: Option<&'static str>) -> bool {
     match (sent, refusal) {
         (Ok(()), None) => true,

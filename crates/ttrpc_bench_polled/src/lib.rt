@@ -1,5 +1,5 @@
-//! What tests of polled ends do: the acts of a client, the lines of a peer, the recorded ones among them, the parts that run side by
-//! side, a stream without a connection, and how a test fails.
+//! Parts for tests of polled ends: the acts of a client, the lines of a peer and the recorded ones among them, parts
+//! that run side by side, a stream without a connection, and faults.
 #![tactic(auto)]
 
 pub mod acts;

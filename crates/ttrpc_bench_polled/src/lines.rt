@@ -10,25 +10,25 @@ use tokio::io::{AsyncRead, AsyncWrite};
 /// A line of a conversation.
 #[derive(Clone, Copy, Debug)]
 pub enum Line<'a> {
-    /// The client says this.
+    /// The client sends these bytes.
     Up(&'a [u8]),
-    /// The server says this.
+    /// The server sends these bytes.
     Down(&'a [u8]),
-    /// The client says no more.
+    /// The client closes its direction.
     UpEnds,
-    /// The server says no more.
+    /// The server closes its direction.
     DownEnds,
 }
 
-/// Who speaks.
+/// A side of a conversation.
 #[derive(Clone, Copy, Debug, PartialEq, Eq)]
 pub enum Side {
     Client,
     Server,
 }
 
-/// One side of a conversation: it says its own lines, and looks whether the other side says its own. Ready: the first that it
-/// didn't, or none.
+/// One side of a conversation: it sends its own lines, and checks those of the other side. Ready with the first fault,
+/// or with `None` after the last line.
 #[derive(Drop)]
 pub struct Speaker<'a, S, W> {
     side: Side,
@@ -40,7 +40,7 @@ pub struct Speaker<'a, S, W> {
 }
 
 impl<'a, S: AsyncRead, W: AsyncWrite> Speaker<'a, S, W> {
-    /// This side of these lines.
+    /// Returns this side of these lines.
     pub fn new(side: Side, lines: &'a [Line<'a>], reader: S, writer: W) -> Speaker<'a, S, W> {
         Speaker {
             side,
@@ -52,7 +52,7 @@ impl<'a, S: AsyncRead, W: AsyncWrite> Speaker<'a, S, W> {
         }
     }
 
-    /// Goes on with a line. Ready: whether it is as stated.
+    /// Goes on with a line. Ready with true if the line is as expected.
     fn poll_line(&mut self, line: Line<'_>, cx: &mut Context<'_>) -> Poll<bool>
         ensures registered { OnPending result (IsArmed cx.new) }
         ensures kept { Keeps cx.old cx.new }
@@ -121,7 +121,7 @@ impl<'a, S: AsyncRead, W: AsyncWrite> Speaker<'a, S, W> {
         Poll::Ready(true)
     }
 
-    /// Whether the other side says no more.
+    /// Polls for the end of the other side's lines. Ready with true if the reader is at its end.
     fn poll_end(&mut self, cx: &mut Context<'_>) -> Poll<bool>
         ensures registered { OnPending result (IsArmed cx.new) }
         ensures kept { Keeps cx.old cx.new }
@@ -135,7 +135,7 @@ impl<'a, S: AsyncRead, W: AsyncWrite> Speaker<'a, S, W> {
     }
 }
 
-/// How many lines are said at most before other parts go on.
+/// The number of lines that are handled at most before other parts go on.
 const TURNS: u32 = 64;
 
 impl<S: AsyncRead, W: AsyncWrite> Future for Speaker<'_, S, W> {

@@ -6,7 +6,7 @@ use ttrpc_polled::{Kind, Sending, StreamLine};
 use ttrpc_proto::Result;
 use ttrpc_wire::Blob;
 
-/// The line of one stream, which counts those who leave the stream.
+/// The line of one stream, which counts the reports that its halves were dropped.
 #[derive(Drop)]
 pub struct Lone<K> {
     id: K,
@@ -14,7 +14,7 @@ pub struct Lone<K> {
 }
 
 impl<K: Ord + Copy + Drop> Lone<K> {
-    /// The line of this stream, which nobody has left yet.
+    /// Returns the line of this stream, without reports.
     pub fn new(id: K) -> Lone<K> {
         Lone {
             id,
@@ -22,7 +22,7 @@ impl<K: Ord + Copy + Drop> Lone<K> {
         }
     }
 
-    /// How often it was told that nobody receives from its stream, and that nobody sends on it.
+    /// Returns how often the stream's receiver and its sender were reported as dropped.
     pub fn left(&self) -> (u32, u32) {
         self.left.get()
     }

@@ -1,4 +1,4 @@
-//! Parts that run side by side, each polled only once it is woken.
+//! Parts that run side by side. Each is polled only after it was woken.
 ghost use Rattle.std.specs.Prelude.{IfOk};
 ghost use Rattle.futures.specs.Queued.{AllPollable, set_places};
 ghost use Rattle.ttrpc_bench_polled.specs.Parts.{PartsCanPoll};
@@ -9,7 +9,8 @@ use futures::{Future, Stream};
 use std::alloc::Global;
 use ttrpc_proto::{Error, Result};
 
-/// What came otherwise than stated: the act of this number, or the line, from 0; or the end of a server's connections.
+/// The first result that wasn't as expected: the number of an act or of a line, from 0, or the end of a server's
+/// connections.
 #[derive(Clone, Copy, Debug, PartialEq, Eq)]
 pub enum Fault {
     Act(usize),
@@ -20,20 +21,20 @@ pub enum Fault {
 /// A part.
 #[derive(Drop)]
 pub enum Part<D, E> {
-    /// It does what it is there for, and then is ready.
+    /// Does its work, and then is ready.
     Does(D),
-    /// It goes on beside that.
+    /// Runs beside the work, and isn't waited for.
     Goes(E),
-    /// It goes on, and is waited for.
+    /// Runs beside the work, and is waited for.
     Lasts(E),
 }
 
-/// What a part came to.
+/// The end of a part.
 #[derive(Clone, Copy, Debug, PartialEq, Eq)]
 pub enum PartEnded {
-    /// It has done what it is there for, with this fault, if any.
+    /// The part has finished, with this fault, if there is one.
     Done(Option<Fault>),
-    /// It goes on no more.
+    /// A part that isn't waited for has ended.
     Over,
 }
 
@@ -64,7 +65,8 @@ impl<D: Future<Output = Option<Fault>>, E: Future<Output = ()>> Future for Part<
     }
 }
 
-/// Parts side by side. Ready: the first fault, or none once so many parts have done what they are there for.
+/// Parts side by side. They are ready with the first fault, or with `None` when all parts that are waited for have
+/// ended.
 #[derive(Drop)]
 pub struct Parts<D, E> {
     set: FuturesUnordered<Part<D, E>>,
@@ -72,7 +74,7 @@ pub struct Parts<D, E> {
 }
 
 impl<D: Future<Output = Option<Fault>>, E: Future<Output = ()>> Parts<D, E> {
-    /// No parts.
+    /// Returns a set without parts.
     pub fn new(alloc: Global) -> Result<Parts<D, E>>
         ensures { IfOk result (PartsCanPoll D.can_poll E.can_poll) }
     {
@@ -82,7 +84,7 @@ impl<D: Future<Output = Option<Fault>>, E: Future<Output = ()>> Parts<D, E> {
         })
     }
 
-    /// A part that is waited for, and one that goes on beside it.
+    /// Returns a part that is waited for, and one that runs beside it.
     pub fn beside(alloc: Global, does: D, goes: E) -> Result<Parts<D, E>>
         requires first { D.can_poll does }
         requires second { E.can_poll goes }
@@ -94,7 +96,7 @@ impl<D: Future<Output = Option<Fault>>, E: Future<Output = ()>> Parts<D, E> {
         Ok(parts)
     }
 
-    /// Two parts that are waited for, and one that goes on beside them.
+    /// Returns two parts that are waited for, and one that runs beside them.
     pub fn both(alloc: Global, first: D, second: D, goes: E) -> Result<Parts<D, E>>
         requires first { D.can_poll first }
         requires second { D.can_poll second }
@@ -106,7 +108,7 @@ impl<D: Future<Output = Option<Fault>>, E: Future<Output = ()>> Parts<D, E> {
         Ok(parts)
     }
 
-    /// A part that is waited for, and one that goes on beside it and is waited for, too.
+    /// Returns a part that is waited for, and one that runs beside it and is waited for, too.
     pub fn lasting(alloc: Global, does: D, goes: E) -> Result<Parts<D, E>>
         requires first { D.can_poll does }
         requires second { E.can_poll goes }
@@ -118,7 +120,7 @@ impl<D: Future<Output = Option<Fault>>, E: Future<Output = ()>> Parts<D, E> {
         Ok(parts)
     }
 
-    /// One more part, which is waited for.
+    /// Adds a part that is waited for.
     pub fn does(&mut self, does: D) -> Result<()>
         requires all { PartsCanPoll D.can_poll E.can_poll self.old }
         requires new { D.can_poll does }
@@ -131,7 +133,7 @@ impl<D: Future<Output = Option<Fault>>, E: Future<Output = ()>> Parts<D, E> {
         }
     }
 
-    /// One more part, which goes on beside the others.
+    /// Adds a part that runs beside the others.
     pub fn goes(&mut self, goes: E) -> Result<()>
         requires all { PartsCanPoll D.can_poll E.can_poll self.old }
         requires new { E.can_poll goes }
@@ -143,7 +145,7 @@ impl<D: Future<Output = Option<Fault>>, E: Future<Output = ()>> Parts<D, E> {
         }
     }
 
-    /// One more part, which goes on beside the others, and is waited for.
+    /// Adds a part that runs beside the others, and is waited for.
     pub fn lasts(&mut self, goes: E) -> Result<()>
         requires all { PartsCanPoll D.can_poll E.can_poll self.old }
         requires new { E.can_poll goes }
@@ -157,7 +159,7 @@ impl<D: Future<Output = Option<Fault>>, E: Future<Output = ()>> Parts<D, E> {
     }
 }
 
-/// How many parts are ready at most before other tasks run.
+/// The number of ended parts that are handled at most before other tasks run.
 const TURNS: u32 = 64;
 
 impl<D: Future<Output = Option<Fault>>, E: Future<Output = ()>> Future for Parts<D, E> {

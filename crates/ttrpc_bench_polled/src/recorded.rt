@@ -1,13 +1,13 @@
-//! Frames that were recorded between peers in Go (ttrpc 1.2.7) and of the Rust crate (0.10.0), and what the ends of this project do
-//! with them. The frames of clients, and those of servers that a client hears, are the recorded ones. What a server of this project
-//! says is what the Rust crate's said, frame by frame in the order of its causes.
+//! Frames that were recorded between peers in Go (ttrpc 1.2.7) and of the Rust crate (0.10.0), and what the ends of
+//! this project do with them. The frames of clients, and those that servers send to a client of this project, are the
+//! recorded ones. A server of this project sends the same frames as the Rust crate's, in the order of their causes.
 use crate::acts::Act;
 use crate::lines::Line;
 
-/// A name, what a client does, and what goes over the wire.
+/// A name, the acts of a client, and the lines of the connection.
 pub type Conversation = (&'static str, &'static [Act], &'static [Line<'static>]);
 
-/// A name, and what goes over the wire.
+/// A name, and the lines of the connection.
 pub type Said = (&'static str, &'static [Line<'static>]);
 
 const ANSWERS_00000000000000000000000000000000: &[u8] = b"\
@@ -909,7 +909,7 @@ const TO_GO_BARE_CLIENT_DROPS_WITHOUT_A_CLOSE_LINES: &[Line<'static>] = &[
     Line::DownEnds,
 ];
 
-/// What a client of this project does beside a server written in Go, and what goes over the wire. The one of this number, from 0.
+/// Returns the conversation with this number, from 0, of a client of this project and a server written in Go.
 pub fn client_beside_go(number: usize) -> Option<Conversation> {
     Some(match number {
         0 => ("unary", GO_UNARY_ACTS, GO_UNARY_LINES),
@@ -1009,7 +1009,7 @@ pub fn client_beside_go(number: usize) -> Option<Conversation> {
     })
 }
 
-/// The same beside a server of the Rust crate. The one of this number, from 0.
+/// Returns the conversation with this number, from 0, of a client of this project and a server of the Rust crate.
 pub fn client_beside_rust(number: usize) -> Option<Conversation> {
     Some(match number {
         0 => ("unary", GO_UNARY_ACTS, RUST_UNARY_LINES),
@@ -1109,7 +1109,7 @@ pub fn client_beside_rust(number: usize) -> Option<Conversation> {
     })
 }
 
-/// What a client of the Rust crate says to a server of this project, and what that says. The one of this number, from 0.
+/// Returns the lines with this number, from 0, of a client of the Rust crate and a server of this project.
 pub fn served_to_rust(number: usize) -> Option<Said> {
     Some(match number {
         0 => ("unary", RUST_UNARY_LINES),
@@ -1176,7 +1176,8 @@ pub fn served_to_rust(number: usize) -> Option<Said> {
     })
 }
 
-/// The same of a client written in Go, whose streams begin with an item that nobody sent. The one of this number, from 0.
+/// Returns the lines with this number, from 0, of a client written in Go and a server of this project. Each stream
+/// begins with an item that the client didn't send.
 pub fn served_to_go(number: usize) -> Option<Said> {
     Some(match number {
         0 => ("unary", RUST_UNARY_LINES),
@@ -1246,7 +1247,7 @@ pub fn served_to_go(number: usize) -> Option<Said> {
     })
 }
 
-/// The same where a stream that is opened without a payload begins without an item. The one of this number, from 0.
+/// Returns the same, for a server with streams that begin without an item if they are opened without a payload.
 pub fn served_to_go_bare(number: usize) -> Option<Said> {
     Some(match number {
         0 => ("unary", RUST_UNARY_LINES),

@@ -1,14 +1,14 @@
-//! What the server's core of the tests knows.
+//! The registries of the tests' server cores.
 use std::alloc::{AllocError, Global};
 use ttrpc_server::Registry;
 use ttrpc_wire::Text;
 
-/// The service `demo.Echo` with the method `Echo` and the stream `Chat`.
+/// Returns the service `demo.Echo` with the method `Echo` and the stream `Chat`.
 pub fn registry(alloc: Global) -> Result<Registry, AllocError> {
     registry_of(alloc, &[("Echo", false), ("Chat", true)])
 }
 
-/// The service `demo.Echo` as the recorded servers have it.
+/// Returns the service `demo.Echo` as the recorded servers have it.
 pub fn recorded_registry(alloc: Global) -> Result<Registry, AllocError> {
     registry_of(
         alloc,
@@ -26,7 +26,7 @@ pub fn recorded_registry(alloc: Global) -> Result<Registry, AllocError> {
     )
 }
 
-/// The service `demo.Echo` with these names, and whether each is a stream's.
+/// Returns the service `demo.Echo` with these names. A name with true is a stream, and any other is a method.
 fn registry_of(alloc: Global, names: &[(&str, bool)]) -> Result<Registry, AllocError> {
     let mut registry = Registry::new(alloc);
     for (name, is_stream) in names.iter() {

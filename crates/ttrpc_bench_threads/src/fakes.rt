@@ -1,11 +1,11 @@
-//! A clock whose moments are set, and what accepts as it is told.
+//! A clock with moments that are set, and an acceptor that fails a set number of times.
 use std::io::{self, ErrorKind};
 use std::sync::atomic::{AtomicU64, Ordering};
 use std::time::{Clock, Duration};
 use ttrpc_sync_server::accept::Accepts;
 use ttrpc_transport::PipeConnection;
 
-/// A clock that tells one moment, and then another.
+/// A clock that gives the moment `first` once, and then always `second`.
 #[derive(Drop)]
 pub struct Moments {
     pub first: AtomicU64,
@@ -22,7 +22,7 @@ impl Clock for Moments {
     }
 }
 
-/// What fails so often with this kind, and then says that no more connections come.
+/// An acceptor that fails `left` times with this kind, and then reports that no more connections come.
 #[derive(Drop)]
 pub struct Failing {
     pub kind: ErrorKind,

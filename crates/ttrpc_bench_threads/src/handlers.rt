@@ -1,4 +1,4 @@
-//! What the methods of a test's server do.
+//! The methods of a test's server.
 use std::alloc::Global;
 use std::sync::atomic::{AtomicBool, AtomicU64, Ordering};
 use std::sync::{Arc, Mutex};
@@ -11,10 +11,10 @@ use ttrpc_sync_server::{MethodHandler, TtrpcContext, response_error_to_channel};
 use ttrpc_wire::Blob;
 use ttrpc_wire::codec::message::WireMessage;
 
-/// How often a test looks at most, a millisecond after each look.
+/// The number of looks that a test makes at most, with a millisecond after each.
 pub const TURNS: u32 = 10000;
 
-/// Looks until it is so, and says whether it was in time.
+/// Looks until the condition holds, and returns whether it held in time.
 pub fn comes<C: Clock, F: Fn() -> bool>(clock: &C, is_so: F) -> bool
     requires { F.IsAlwaysCallable is_so }
 {
@@ -27,18 +27,18 @@ pub fn comes<C: Clock, F: Fn() -> bool>(clock: &C, is_so: F) -> bool
     false
 }
 
-/// What handlers have seen, and what they look for.
+/// The observations of handlers, and the gate that they wait at.
 #[derive(Drop)]
 pub struct Board {
     /// The stream id and the payload of each request.
     pub seen: Mutex<Vec<(u32, Vec<u8>)>>,
-    /// Whether a second call was answered.
+    /// True if the gate is open.
     pub is_open: AtomicBool,
-    /// How many handlers run that wait for the end of their connection.
+    /// The number of running handlers that wait for the end of their connection.
     pub waiting: AtomicU64,
-    /// How many of them saw that it was told.
+    /// The number of these handlers that saw the end.
     pub cancelled: AtomicU64,
-    /// How many handlers run that wait for the gate.
+    /// The number of handlers that have begun to wait for the gate.
     pub gated: AtomicU64,
 }
 
@@ -59,24 +59,26 @@ impl Board {
     }
 }
 
-/// What a method does.
+/// The behaviour of a method.
 #[derive(Clone, Copy)]
 pub enum Way {
-    /// It notes the request, and answers its payload.
+    /// Notes the request, and responds with its payload.
     Echo,
-    /// It looks whether the second call was answered, and answers `open` or `shut`.
+    /// Waits until the gate is open, and responds `open`, or `shut` if that took too long.
     Gate,
-    /// It opens the gate, and answers its payload.
+    /// Waits for the same, and responds with `LONG` bytes.
+    GateAtLength,
+    /// Opens the gate, and responds with its payload.
     Opens,
-    /// It waits for the end of its connection.
+    /// Waits for the end of its connection, and doesn't respond.
     Waits,
-    /// It waits for that, and answers `late` 0.4 seconds after.
+    /// Waits for the same, and responds `late` 0.4 seconds later.
     Lasts,
-    /// It answers nothing, and fails.
+    /// Fails without a response.
     Fails,
-    /// It answers what is known of its connection as `name`.
+    /// Responds with its connection's datum `name`.
     Name,
-    /// It answers by an error.
+    /// Responds with an error.
     Tells,
 }
 
@@ -107,7 +109,7 @@ impl<R: Host> Method<R> {
     }
 }
 
-/// The text that is known as `name`.
+/// Returns the connection's datum `name`, or nothing if there is none.
 fn name_in(data: &ConnectionData) -> &[u8] {
     match data.get_typed::<String>("name") {
         Some(name) => name.as_bytes(),
@@ -115,7 +117,18 @@ fn name_in(data: &ConnectionData) -> &[u8] {
     }
 }
 
-/// An OK status and this payload.
+/// The number of bytes of a long response. A queue has room for two such responses.
+pub const LONG: usize = 4_000_000;
+
+/// Returns a response with an OK status and `length` bytes.
+pub fn response_of_length(alloc: Global, length: usize) -> Result<Response> {
+    Ok(Response {
+        status: Some(Status::new(alloc)),
+        payload: Blob::from_vec(Vec::from_elem(alloc, 7u8, length)?),
+    })
+}
+
+/// Returns a response with an OK status and this payload.
 fn response_of(alloc: Global, payload: &[u8]) -> Result<Response> {
     Ok(Response {
         status: Some(Status::new(alloc)),
@@ -139,6 +152,10 @@ where
                 ctx.respond(id, response_of(alloc, payload)?)
             }
             Way::Gate => ctx.respond(id, response_of(alloc, self.gate())?),
+            Way::GateAtLength => {
+                self.gate();
+                ctx.respond(id, response_of_length(alloc, LONG)?)
+            }
             Way::Opens => {
                 self.board.is_open.store(true, Ordering::SeqCst);
                 ctx.respond(id, response_of(alloc, payload)?)

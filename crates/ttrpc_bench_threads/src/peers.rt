@@ -1,18 +1,17 @@
-//! Peers that read and write frames as a test has them do, one after the other.
+//! Peers that read and write frames one after the other, as a test asks.
 ghost use Rattle.std.specs.Prelude.{◌<◌, ◌^◌, length, IfOk};
 
+use crate::handlers::response_of_length;
 use crate::sites::request;
 use std::alloc::Global;
 use std::io::{Read, Write};
-use ttrpc_proto::{
-    Error, GenMessage, GenMessageError, MessageHeader, Response, Result as Answered, Status,
-};
+use ttrpc_proto::{Error, GenMessage, GenMessageError, MessageHeader, Result as Answered};
 use ttrpc_transport::PipeConnection;
 use ttrpc_wire::Blob;
 use ttrpc_wire::codec::message::{WireMessage, encode};
 use ttrpc_wire::values::slices::behind;
 
-/// Writes all of it.
+/// Writes all bytes.
 pub fn write_all(connection: &PipeConnection, bytes: &[u8]) -> Answered<()> {
     let mut rest = bytes;
     for _ in 0..bytes.len() {
@@ -46,13 +45,13 @@ pub fn frames_until_the_end<R: Read>(alloc: Global, reader: &mut R) -> usize {
     count
 }
 
-/// Reads a frame, and says its stream id.
+/// Reads a frame, and returns its stream id.
 pub fn next_id(alloc: Global, connection: &PipeConnection) -> Answered<u32> {
     let mut reader = connection;
     Ok(read_frame(alloc, &mut reader)?.header.stream_id)
 }
 
-/// The bytes of a message, of which nothing but memory may be wanting.
+/// Returns the bytes of a message, which can fail only if memory is refused.
 fn encoded<M: WireMessage>(alloc: Global, message: &M) -> Answered<Vec<u8>>
     ensures { IfOk result (λ bytes. length bytes.items < 2 ^ 32) }
 {
@@ -62,13 +61,9 @@ fn encoded<M: WireMessage>(alloc: Global, message: &M) -> Answered<Vec<u8>>
     }
 }
 
-/// Answers a call with so many bytes.
+/// Responds to a call with `length` bytes.
 pub fn answer<W: Write>(alloc: Global, writer: &mut W, id: u32, length: usize) -> Answered<()> {
-    let response = Response {
-        status: Some(Status::new(alloc)),
-        payload: Blob::from_vec(Vec::from_elem(alloc, 7u8, length)?),
-    };
-    let payload = encoded(alloc, &response)?;
+    let payload = encoded(alloc, &response_of_length(alloc, length)?)?;
     let message = GenMessage {
         header: MessageHeader::new_response(id, payload.len() as u32),
         payload: Blob::from_vec(payload),
@@ -76,12 +71,12 @@ pub fn answer<W: Write>(alloc: Global, writer: &mut W, id: u32, length: usize) -
     message.write_to(alloc, writer)
 }
 
-/// Returns the bytes of so many requests of a method of `demo.Echo` without a payload, under the odd ids from 1 on.
+/// Returns the bytes of `count` requests of a method of `demo.Echo` without a payload, with the odd ids from 1 on.
 pub fn requests(alloc: Global, method: &str, count: u32) -> Answered<Vec<u8>> {
     requests_with(alloc, method, b"", count)
 }
 
-/// Returns the bytes of such requests with this payload.
+/// Returns the bytes of `count` such requests with this payload.
 pub fn requests_with(alloc: Global, method: &str, payload: &[u8], count: u32) -> Answered<Vec<u8>> {
     let payload = encoded(alloc, &request(alloc, method, payload, 0)?)?;
     let mut bytes = Vec::new(alloc);

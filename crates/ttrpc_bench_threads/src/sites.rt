@@ -16,12 +16,12 @@ use ttrpc_sync_server::{NoHook, Server, SharedHook};
 use ttrpc_transport::{ClientConnection, PipeConnection, PipeListener};
 use ttrpc_wire::{Blob, Sequence, Text};
 
-/// What the tests ask of the system.
+/// The parts of the system that the tests use.
 pub trait Machine: Runtime + Files + Net<Listener = TcpListener, Stream = TcpStream> {}
 
 impl<R: Runtime + Files + Net<Listener = TcpListener, Stream = TcpStream>> Machine for R {}
 
-/// A server that listens, its address, and what its handlers see.
+/// A server that listens, its address, and the board of its handlers.
 #[derive(Drop)]
 pub struct Site<R: Host, A: Drop> {
     pub server: Server<R, Method<R>, A>,
@@ -29,13 +29,14 @@ pub struct Site<R: Host, A: Drop> {
     pub board: Arc<Board, Global>,
 }
 
-/// A client over no transform.
+/// A client without transforms.
 pub type PlainClient<R> = Client<R, Plain, Plain>;
 
-/// The methods of a test's server, and what each does.
+/// The methods of a test's server, and the behaviour of each.
 const METHODS: &[(&str, Way)] = &[
     ("/demo.Echo/Echo", Echo),
     ("/demo.Echo/Gate", Gate),
+    ("/demo.Echo/GateAtLength", GateAtLength),
     ("/demo.Echo/Opens", Opens),
     ("/demo.Echo/Waits", Waits),
     ("/demo.Echo/Lasts", Lasts),
@@ -44,7 +45,7 @@ const METHODS: &[(&str, Way)] = &[
     ("/demo.Echo/Tells", Tells),
 ];
 
-/// Adds a method under this path.
+/// Adds a method with this path.
 pub fn add_method<R: Host>(
     rt: &R,
     board: &Arc<Board, Global>,
@@ -69,12 +70,12 @@ fn methods<R: Host>(rt: &R, board: &Arc<Board, Global>) -> Answered<BTreeMap<Str
     Ok(methods)
 }
 
-/// A board on which nothing was noted yet.
+/// Returns an empty board.
 pub fn new_board<R: Host>(rt: &R) -> Answered<Arc<Board, Global>> {
     Ok(Arc::new(rt.alloc(), Board::new(rt.alloc()))?)
 }
 
-/// A server that has all of the methods, and neither an address nor a hook.
+/// Returns a server that has all of the methods, and neither an address nor a hook.
 pub fn unbound<R: Host>(
     rt: &R,
     board: &Arc<Board, Global>,
@@ -82,12 +83,12 @@ pub fn unbound<R: Host>(
     Ok(Server::new(rt.clone()?)?.register_service(methods(rt, board)?)?)
 }
 
-/// A server that listens at a free port.
+/// Starts a server that listens at a free port.
 pub fn serving<R: Machine + 'static>(rt: &R) -> Answered<Site<R, NoHook>> {
     hooked(rt, NoHook {})
 }
 
-/// The same, where this hook looks at each connection.
+/// Does the same, with this hook for each connection.
 pub fn hooked<R, O, I, A>(rt: &R, hook: A) -> Answered<Site<R, A>>
 where
     R: Machine + 'static,
@@ -98,7 +99,7 @@ where
     hooked_at_once(rt, hook, true)
 }
 
-/// The same, and each write of its connections goes out at once, or not.
+/// Does the same. With `nodelay`, each write of its connections goes out at once.
 pub fn hooked_at_once<R, O, I, A>(rt: &R, hook: A, nodelay: bool) -> Answered<Site<R, A>>
 where
     R: Machine + 'static,
@@ -113,7 +114,7 @@ where
     started(rt, server, board)
 }
 
-/// The same, of a server that has an address and what it is to serve.
+/// Starts a server that has an address and its methods.
 pub fn started<R, O, I, A>(
     rt: &R,
     server: Server<R, Method<R>, A>,
@@ -135,7 +136,7 @@ where
     })
 }
 
-/// The address of this place, which there is.
+/// Returns the address of this place. It is an error if there is none.
 pub fn address_in(alloc: Global, place: Option<SocketAddr>) -> Answered<String> {
     match place {
         Some(place) => Ok(format!(in alloc; "tcp://{place}")?),
@@ -143,26 +144,26 @@ pub fn address_in(alloc: Global, place: Option<SocketAddr>) -> Answered<String> 
     }
 }
 
-/// A client of the server at this address.
+/// Connects a client to the server at this address.
 pub fn client<R: Machine + 'static>(rt: &R, address: &str) -> Answered<PlainClient<R>> {
     Ok(Client::connect(rt.clone()?, address, true)?)
 }
 
-/// A client of the server at this address, of which one call was answered.
+/// Connects a client to the server at this address, and makes one call that is answered.
 pub fn answered_client<R: Machine + 'static>(rt: &R, address: &str) -> Answered<PlainClient<R>> {
     let client = client(rt, address)?;
     answers(rt, &client, "Echo", b"2", b"2")?;
     Ok(client)
 }
 
-/// A server that listens at a free port, and a client of it.
+/// Starts a server that listens at a free port, and connects a client to it.
 pub fn serving_one<R: Machine + 'static>(rt: &R) -> Answered<(Site<R, NoHook>, PlainClient<R>)> {
     let site = serving(rt)?;
     let client = client(rt, site.address.as_str())?;
     Ok((site, client))
 }
 
-/// The same, with two handles of the client, so that two threads share its connection.
+/// Does the same, and returns two handles of the client, so that two threads share its connection.
 pub fn serving_two<R: Machine + 'static>(
     rt: &R,
 ) -> Answered<(Site<R, NoHook>, PlainClient<R>, PlainClient<R>)> {
@@ -171,19 +172,19 @@ pub fn serving_two<R: Machine + 'static>(
     Ok((site, first, second))
 }
 
-/// A listener at a free port that no server stands behind, and its address.
+/// Returns a listener at a free port without a server, and its address.
 pub fn listening<R: Machine>(rt: &R) -> Answered<(PipeListener, String)> {
     let listener = PipeListener::new(rt, rt.alloc(), "tcp://127.0.0.1:0", true)?;
     let address = address_in(rt.alloc(), listener.local_addr()?)?;
     Ok((listener, address))
 }
 
-/// A bare connection to the server at this address.
+/// Returns a bare connection to the server at this address.
 pub fn connection<R: Machine>(rt: &R, address: &str) -> Answered<PipeConnection> {
     ClientConnection::client_connect(rt, rt.alloc(), address, true)?.get_pipe_connection()
 }
 
-/// A request of a method of `demo.Echo`.
+/// Returns a request of a method of `demo.Echo`.
 pub fn request(
     alloc: Global,
     method: &str,
@@ -199,7 +200,7 @@ pub fn request(
     })
 }
 
-/// Calls a method of `demo.Echo` without a limit of time.
+/// Calls a method of `demo.Echo` without a timeout.
 pub fn call<R, O, I>(
     rt: &R,
     client: &Client<R, O, I>,
@@ -214,7 +215,7 @@ where
     client.request(request(rt.alloc(), method, payload, 0)?)
 }
 
-/// Calls a method of `demo.Echo`. Any other answer than the expected one is an error with the name of the method.
+/// Calls a method of `demo.Echo`. Any other response than the expected one is an error with the name of the method.
 pub fn answers<R, O, I>(
     rt: &R,
     client: &Client<R, O, I>,
@@ -231,7 +232,7 @@ where
     check(rt.alloc(), response.payload.as_slice() == expected, method)
 }
 
-/// Makes an error of this text, or that of refused memory.
+/// Returns an error with this text, or the error of refused memory.
 fn otherwise(alloc: Global, text: &str) -> Error {
     match Text::from_str(alloc, text) {
         Ok(text) => Error::Others(text),
@@ -248,7 +249,7 @@ pub fn check(alloc: Global, holds: bool, text: &str) -> Answered<()> {
     }
 }
 
-/// Returns an error if this one has another text. An error for want of memory is returned as it is.
+/// Returns an error if this one has another text. The error of refused memory is returned as it is.
 fn check_text(alloc: Global, error: Error, expected: &str) -> Answered<()> {
     if matches!(error, Error::NoMemory) {
         return Err(error);
@@ -257,7 +258,8 @@ fn check_text(alloc: Global, error: Error, expected: &str) -> Answered<()> {
     check(alloc, text.as_str() == expected, text.as_str())
 }
 
-/// Returns an error if the result is none, or one with another text. An error for want of memory is returned as it is.
+/// Returns an error if the result is `Ok`, or an error with another text. The error of refused memory is returned as it
+/// is.
 pub fn is_told<R: AllocGlobal, T: Drop>(rt: &R, told: Answered<T>, expected: &str) -> Answered<()> {
     match told {
         Ok(_) => Err(otherwise(rt.alloc(), expected)),
@@ -272,7 +274,7 @@ pub fn call_fails<R: Machine + 'static>(rt: &R, address: &str, method: &str) -> 
     check(rt.alloc(), failed, "a call is answered that should fail")
 }
 
-/// So many calls of the echo are answered, one behind the other.
+/// Calls the echo `count` times, one call after the other, and checks each response.
 pub fn answers_often<R, O, I>(rt: &R, client: &Client<R, O, I>, count: u32) -> Answered<()>
 where
     R: Host,
@@ -285,7 +287,7 @@ where
     Ok(())
 }
 
-/// A while in which another thread comes to wait.
+/// Sleeps for a while in which another thread comes to wait.
 pub fn a_while<C: Clock>(clock: &C) {
     thread::sleep(clock, Duration::from_millis(20));
 }

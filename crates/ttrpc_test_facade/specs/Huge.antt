@@ -2,6 +2,6 @@
 -- Source: this project's.
 use Rattle.std.specs.Prelude.{ℕ, List, replicate}
 
--- so many zeros
+-- `n` zeros
 abbrev pub zeros : ℕ → List ℕ
 zeros n = replicate n 0

@@ -1,4 +1,4 @@
-//! Tests of the facade: the macros, what they call, and the paths under which `ttrpc` names all of it.
+//! Tests of the facade: the macros, the functions that they call, and the paths of all items in `ttrpc`.
 #![tactic(auto)]
 
 #[cfg(test)]

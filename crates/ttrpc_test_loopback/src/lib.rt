@@ -1,4 +1,5 @@
-//! The polled server over loopback, and clients and servers with threads beside polled ones, by the words of their programs.
+//! The polled server over loopback, and clients and servers with threads together with polled ones, through the
+//! commands of their programs.
 #![tactic(auto)]
 
 #[cfg(test)]

@@ -1,5 +1,5 @@
-//! Tests of the polled client over bytes in memory, beside a peer that echoes by a server's core, and beside one that speaks line by
-//! line; and of polled sockets.
+//! Tests of the polled client over bytes in memory, with a peer that echoes with a server's core, and with a peer that
+//! sends line by line. There are tests of polled sockets, too.
 #![tactic(auto)]
 
 #[cfg(test)]

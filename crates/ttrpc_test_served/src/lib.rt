@@ -1,5 +1,5 @@
-//! Tests of the polled server over bytes in memory, beside the polled client and beside a peer that speaks line by line, with the
-//! handlers that it has there.
+//! Tests of the polled server over bytes in memory, with the polled client and with a peer that sends line by line,
+//! with the handlers of the server.
 #![tactic(auto)]
 
 #[cfg(test)]

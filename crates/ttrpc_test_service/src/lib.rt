@@ -1,5 +1,5 @@
-//! Tests of what `tools/messages` writes for polled ends: an rpc of each kind reaches its method, and is told as its kind is. All
-//! but the messages stands under the tests, so that it is proved once.
+//! Tests of the code that `tools/messages` writes for polled ends: an rpc of each kind reaches its method, and has the
+//! result of its kind. All modules except the messages belong to the tests, so that each is proved once.
 #![tactic(auto)]
 
 pub mod messages;

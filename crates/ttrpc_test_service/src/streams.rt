@@ -14,7 +14,7 @@ use ttrpc::{Error, Result};
 
 type Line = ServerShared<Plain, Plain>;
 
-/// An item of so many bytes.
+/// Returns an item with `count` bytes.
 fn item_of(alloc: Global, count: u64) -> std::result::Result<Item, AllocError> {
     let content = Vec::from_elem(alloc, 0u8, count as usize)?;
     Ok(Item {
@@ -23,18 +23,18 @@ fn item_of(alloc: Global, count: u64) -> std::result::Result<Item, AllocError> {
     })
 }
 
-/// Where a list is that has one item.
+/// The state of a list with one item.
 #[derive(Drop)]
 enum Listed {
-    /// It waits for its request.
+    /// Waits for its request.
     Opens(ServerStreamOpening<Count, Item, Line>),
-    /// It sends its item.
+    /// Sends its item.
     Sends(ServerStreamSender<Item, Line>, Sending),
-    /// It has ended.
+    /// The list has ended.
     Done,
 }
 
-/// A list of one item, which has as many bytes as the request says.
+/// A list of one item. The request gives the number of its bytes.
 #[derive(Drop)]
 pub struct Listing {
     alloc: Global,
@@ -80,7 +80,7 @@ impl Future for Listing {
     }
 }
 
-/// How many bytes the contents of the items have.
+/// Counts the bytes of the items' contents.
 #[derive(Drop)]
 pub struct Loading {
     pub receiver: ServerStreamReceiver<Item, Line>,
@@ -103,7 +103,7 @@ impl Future for Loading {
     }
 }
 
-/// Gives each item back.
+/// Sends each item back.
 #[derive(Drop)]
 pub struct Talking {
     alloc: Global,

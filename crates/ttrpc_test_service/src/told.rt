@@ -11,7 +11,7 @@ use ttrpc::{Error, Result};
 
 type Line = ServerShared<Plain, Plain>;
 
-/// What each rpc of the tests does.
+/// The implementation of each rpc of the tests.
 #[derive(Clone, Copy, Debug)]
 pub struct Told {}
 

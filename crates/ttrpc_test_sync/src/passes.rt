@@ -1,6 +1,6 @@
-//! What a gate of the tests writes down.
+//! The record of a gate of the tests.
 
-/// How a worker passed the gate.
+/// The way that a worker passed the gate.
 #[derive(Clone, Copy, Debug, PartialEq, Eq)]
 pub enum Pass {
     Entered,

@@ -1,4 +1,4 @@
-//! The caller that `docs/CALLING.md` shows.
+//! A caller that makes one call by `Client::request`.
 use std::net::{Net, TcpListener, TcpStream};
 use std::rt::Files;
 use std::test::Fail;
@@ -7,7 +7,7 @@ use ttrpc::sync::{NoWatch, Runtime};
 use ttrpc::{Client, Request, Result};
 use ttrpc_echo::start_server;
 
-/// What the server at the address answers to `Echo` of `demo.Echo` within five seconds.
+/// Returns the payload that the server at the address answers to `Echo` of `demo.Echo` within five seconds.
 fn echo<R>(rt: R, address: &str, bytes: &[u8]) -> Result<Blob>
 where
     R: Runtime + Files + Net<Listener = TcpListener, Stream = TcpStream>,

@@ -1,4 +1,4 @@
-//! What the macros call, over values.
+//! The functions that the macros call, over values.
 use crate::tests::huge::HUGE;
 use crate::tests::pairs::nothing;
 use std::alloc::Global;
@@ -16,17 +16,18 @@ const PAIR: &[u8] = b"\x0a\x01k\x12\x01v";
 /// A key that is cut.
 const CUT: &[u8] = b"\x0a\x05a";
 
-/// The request for it of the service `s` and its method `m`, with five nanoseconds and the texts `a` and `b` under the key `t`.
+/// The request with it for the service `s` and its method `m`, with five nanoseconds and the texts `a` and `b` for the
+/// key `t`.
 const REQUEST: &[u8] =
     b"\x0a\x01s\x12\x01m\x1a\x06\x0a\x01k\x12\x01v\x20\x05\x2a\x06\x0a\x01t\x12\x01a\x2a\x06\x0a\x01t\x12\x01b";
 
-/// The response that carries the pair under an OK status, which is there and empty.
+/// The response with the pair and an OK status, which is present and empty.
 const RESPONSE: &[u8] = b"\x0a\x00\x12\x06\x0a\x01k\x12\x01v";
 
-/// That of a status of its own: not found, `gone`.
+/// The response of an error with a status: not found, `gone`.
 const NOT_FOUND: &[u8] = b"\x0a\x08\x08\x05\x12\x04gone";
 
-/// That of another error: unknown, with what it prints.
+/// The response of another error: unknown, with the error's text.
 const UNKNOWN: &[u8] = b"\x0a\x13\x08\x02\x12\x0fttrpc err: gone";
 
 fn pair(alloc: Global) -> Result<KeyValue, Fail> {
@@ -36,7 +37,7 @@ fn pair(alloc: Global) -> Result<KeyValue, Fail> {
     })
 }
 
-/// The error, where there is one that doesn't come from want of memory.
+/// Returns the error. Without an error, or if memory was refused, returns a failure of the test.
 pub fn error_of<T: Drop>(told: Answer<T>) -> Result<Error, Fail> {
     match told {
         Ok(_told) => Err(Fail::from("no error")),
@@ -62,7 +63,7 @@ fn service_prints(alloc: Global) -> Result<bool, Fail> {
     )
 }
 
-/// Returns whether they have the texts of a client.
+/// Returns whether the errors of such values have the texts of a client.
 fn client_prints(alloc: Global) -> Result<bool, Fail> {
     let long = "ttrpc err: Encoding request a message is longer than 4294967295 bytes";
     let cut = "ttrpc err: Unpack get error the bytes end inside a field";
@@ -90,7 +91,7 @@ fn values_come_through(rt: HostRuntime) -> Tested {
     Ok(())
 }
 
-/// One more text under the key `t`.
+/// Adds a text for the key `t`.
 fn add_text(alloc: Global, context: &mut Context, text: &str) -> Tested {
     let key = String::from_str(alloc, "t")?;
     let text = String::from_str(alloc, text)?;
@@ -98,7 +99,7 @@ fn add_text(alloc: Global, context: &mut Context, text: &str) -> Tested {
     Ok(())
 }
 
-/// A context of five nanoseconds, with the texts `a` and `b`.
+/// Returns a context with five nanoseconds and the texts `a` and `b`.
 fn context_of(alloc: Global) -> Result<Context, Fail> {
     let mut context = Context::new(alloc);
     context.timeout_nano = 5;
@@ -124,7 +125,7 @@ fn is_answered(alloc: Global, answer: Answer<KeyValue>, bytes: &[u8]) -> Result<
     Ok(response.encode(alloc)?.as_slice() == bytes)
 }
 
-/// Returns whether errors are answered: one with a status by that, another by its text.
+/// Returns whether errors are answered: an error with a status by that, and another one by its text.
 fn errors_are_answered(alloc: Global) -> Result<bool, Fail> {
     let status = get_status(Code::NOT_FOUND, String::from_str(alloc, "gone")?);
     let other = Error::Others(Text::from_str(alloc, "gone")?);

@@ -6,13 +6,13 @@ use std::alloc::Global;
 use ttrpc::proto::Codec;
 use ttrpc::wire::CodecError;
 
-/// A value whose written form is so many bytes of 0. No bytes are read as one, and no memory is found to write one.
+/// A value that is written as `count` bytes 0. No bytes are read as such a value, and no memory is found to write one.
 #[derive(Debug, Drop, PartialEq, Eq)]
 pub struct Huge {
     pub count: u64,
 }
 
-/// One that is too long to be written.
+/// A value that is too long to be written.
 pub const HUGE: Huge = Huge { count: 4294967296 };
 
 impl Codec for Huge {

@@ -1,5 +1,5 @@
-//! Items by their paths below the facade: values that print, count and compare, calls of what stands below the ends, and a
-//! server that is watched and waited for.
+//! Items by their paths below the facade: values that print, count and compare, calls of items below the ends, and a
+//! server with a watch that is waited for.
 use std::alloc::{AllocError, Global};
 use std::collections::BTreeMap;
 use std::fmt::Debug;
@@ -24,7 +24,7 @@ use ttrpc::{
 
 type Tested = std::result::Result<(), Fail>;
 
-/// Whether something holds, or why a test ended.
+/// True if something holds, or the reason why a test ended.
 type Holds = std::result::Result<bool, Fail>;
 
 /// Returns whether a value prints this.
@@ -54,21 +54,21 @@ fn a_connection_prints_what_is_known_of_it(rt: HostRuntime) -> Tested {
     Ok(())
 }
 
-/// Whether bytes count, compare and give their items.
+/// Returns whether bytes count, compare and give their items.
 fn are_bytes(alloc: Global) -> std::result::Result<bool, Fail> {
     let blob = Blob::decode(alloc, b"\x01\x02")?;
     let is_counted = blob.len() == 2 && !blob.is_empty();
     Ok(is_counted && blob.is_equal(b"\x01\x02") && blob.iter().copied().max() == Some(2))
 }
 
-/// The same of numbers.
+/// Returns whether numbers do the same.
 fn are_numbers(alloc: Global) -> std::result::Result<bool, Fail> {
     let numbers = Sequence::from_vec(Vec::from_slice(alloc, &[3u64, 4])?);
     let is_counted = numbers.len() == 2 && !numbers.is_empty();
     Ok(is_counted && numbers.is_equal(&[3, 4]) && numbers.iter().copied().max() == Some(4))
 }
 
-/// Whether a text counts, compares and gives its characters.
+/// Returns whether a text counts, compares and gives its characters.
 fn is_text(alloc: Global) -> std::result::Result<bool, Fail> {
     let text = Text::from_str(alloc, "ab")?;
     let is_counted = text.len() == 2 && !text.is_empty();
@@ -82,14 +82,14 @@ fn values_count_and_compare(rt: HostRuntime) -> Tested {
     Ok(())
 }
 
-/// Whether -1 is written in ten bytes, as the encoding guide says, and read again.
+/// Returns whether -1 is written in ten bytes, as the encoding guide says, and read again.
 fn are_signed() -> bool {
     let (small, large) = (int32_to_varint(-1), int64_to_varint(-1));
     let is_same = small == u64::MAX && large == u64::MAX;
     is_same && varint_to_int32(small) == -1 && varint_to_int64(large) == -1
 }
 
-/// Whether a hook that answers at 30 seconds is late, and one before that isn't.
+/// Returns whether a hook that answers at 30 seconds is late, and one that answers before isn't.
 fn hooks_have_their_time(alloc: Global) -> bool {
     let late: std::result::Result<HookOutput<Plain, Plain>, HookError> = hook_result(
         0,
@@ -107,9 +107,9 @@ fn hooks_have_their_time(alloc: Global) -> bool {
 /// A frame of one byte.
 const FRAME: &[u8] = b"\0\0\0\x01\0\0\0\x03\x02\0\x2a";
 
-/// Whether a frame that is queued is lent whole.
+/// Returns whether a frame that is queued is lent whole.
 fn is_lent(alloc: Global) -> std::result::Result<bool, Fail> {
-    let mut queue = Outgoing::new(alloc);
+    let mut queue = Outgoing::new(alloc)?;
     let frame = Queued {
         message: GenMessage {
             header: MessageHeader::new_response(3, 1),
@@ -132,7 +132,7 @@ fn parts_are_called_by_their_paths(rt: HostRuntime) -> Tested {
     Ok(())
 }
 
-/// What is told of a server's faults: how many handlers failed.
+/// A watch that counts the handlers that failed.
 #[derive(Drop)]
 struct Failures {
     count: Arc<AtomicU64, Global>,
@@ -149,7 +149,7 @@ impl Watch for Failures {
 struct Items {}
 
 impl Items {
-    /// Gives what the context prints.
+    /// Returns the text of the context.
     fn print<R: Host>(&self, ctx: &TtrpcContext<R, Plain, Plain>, _asked: Blob) -> Result<Blob> {
         let printed = format!(in ctx.rt().alloc(); "{ctx:?}")?;
         Ok(Blob::from_vec(printed.into_bytes()))
@@ -174,17 +174,17 @@ impl<R: Host> MethodHandler<R, Plain, Plain> for Prints<R> {
     }
 }
 
-/// What the test asks of the system.
+/// The parts of the system that the test uses.
 trait Machine: Runtime + Files + Net<Listener = TcpListener, Stream = TcpStream> {}
 
 impl<R: Runtime + Files + Net<Listener = TcpListener, Stream = TcpStream>> Machine for R {}
 
 const PATH: &str = "items.sock";
 
-/// A server at a listener that it was handed, which is told to this count.
+/// A server at a listener that it was given, with a watch that counts.
 type Watched<R> = Server<R, Prints<R>, NoHook, Failures>;
 
-/// Makes it, with no handlers yet.
+/// Returns such a server, without handlers.
 fn watched<R: Machine>(
     rt: &R,
     count: &Arc<AtomicU64, Global>,
@@ -200,7 +200,7 @@ fn watched<R: Machine>(
     )
 }
 
-/// Adds a handler, which stops its server where it has a stopper.
+/// Adds a handler. If it has a stopper, it stops its server.
 fn add<R: Host>(
     handlers: &mut BTreeMap<String, Prints<R>>,
     alloc: Global,
@@ -215,7 +215,7 @@ fn add<R: Host>(
     Ok(())
 }
 
-/// The handlers: one that prints, and one that stops its server.
+/// Returns the handlers: one that prints, and one that stops its server.
 fn handlers<R: Host>(
     alloc: Global,
     stopper: Stopper<R>,
@@ -256,7 +256,7 @@ fn items_are_called<R: Host>(client: &ItemsClient<R>, alloc: Global) -> Holds {
     Ok(printed.is_equal(PRINTED.as_bytes()) && stopped.is_err())
 }
 
-/// The server at work.
+/// Starts the server.
 fn started<R: Machine + 'static>(
     rt: &R,
     count: &Arc<AtomicU64, Global>,

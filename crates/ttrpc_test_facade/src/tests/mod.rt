@@ -1,4 +1,5 @@
-//! Tests of the macros, of what they call, and of the paths of the facade: rows over values, and a service over a socket.
+//! Tests of the macros, of the functions that they call, and of the paths of the facade: rows over values, and a
+//! service over a socket.
 
 mod caller;
 mod calls_tests;

@@ -1,5 +1,5 @@
-//! What the facade names, each item under its path: that this is compiled is the test. Where it was made doesn't matter to a
-//! user, so each is named by its path below `ttrpc` alone.
+//! The names of the facade, each item with its path. The test is that this compiles. The crate of an item doesn't
+//! matter to a user, so each has its path below `ttrpc` alone.
 
 /// The root.
 pub mod root {
@@ -12,7 +12,7 @@ pub mod root {
     };
 }
 
-/// Values, and what they travel in.
+/// Values, and their messages.
 pub mod values {
     pub use ttrpc::error::{
         Error, Result, err_to_others, get_rpc_status, get_status, sock_error_msg,
@@ -31,7 +31,7 @@ pub mod values {
     };
 }
 
-/// Frames, and what is in a request beside its payload.
+/// Frames, and the parts of a request besides its payload.
 pub mod requests {
     pub use ttrpc::context::{Context, from_pb, to_pb, with_duration, with_metadata, with_timeout};
     pub use ttrpc::frame::{
@@ -40,7 +40,7 @@ pub mod requests {
     };
 }
 
-/// What a connection goes through.
+/// The transforms and hooks of a connection.
 pub mod security {
     pub use ttrpc::security_extension::{
         ACCEPT_HOOK_TIMEOUT, AcceptHook, ConnectHook, ConnectionContext, ConnectionData,

@@ -1,4 +1,4 @@
-//! A service of two methods over pairs of a key and a value, and its client.
+//! A service with two methods over pairs of a key and a value, and its client.
 
 use std::alloc::Global;
 use std::collections::BTreeMap;
@@ -12,15 +12,15 @@ use ttrpc::{
     client_request, get_status, request_handler,
 };
 
-/// What a handler knows of a request over no transform.
+/// The context of a request without transforms.
 type PlainContext<R> = TtrpcContext<R, Plain, Plain>;
 
-/// The service: it turns pairs round, and finds what a request came with.
+/// The service: it swaps pairs, and finds metadata of a request.
 #[derive(Drop)]
 struct Pairs {}
 
 impl Pairs {
-    /// Key and value swapped. A pair without a key isn't found, and one without a value fails.
+    /// Returns the pair with key and value swapped. A pair without a key isn't found, and one without a value fails.
     fn turn<R: Host>(&self, ctx: &PlainContext<R>, pair: KeyValue) -> Result<KeyValue> {
         let KeyValue { key, value } = pair;
         let alloc = ctx.alloc();
@@ -37,7 +37,7 @@ impl Pairs {
         })
     }
 
-    /// The first text that the request's metadata has under the pair's key, as its value.
+    /// Returns the pair with the first text for its key in the request's metadata as its value.
     fn find<R: Host>(&self, ctx: &PlainContext<R>, pair: KeyValue) -> Result<KeyValue> {
         let KeyValue { key, value } = pair;
         let value = match ctx.metadata.get(key.as_str()) {
@@ -56,7 +56,7 @@ impl Pairs {
 enum Method {
     Turn,
     Find,
-    /// As `Turn`, but a payload that is no pair is refused.
+    /// The same as `Turn`, but a payload that is no pair is refused.
     Checked,
 }
 
@@ -84,7 +84,7 @@ impl<R: Host> MethodHandler<R, Plain, Plain> for Handler {
     }
 }
 
-/// The methods of the service, each under its path.
+/// Returns the methods of the service, each with its path.
 pub fn methods(alloc: Global) -> Result<BTreeMap<String, Handler>> {
     let service = Arc::new(alloc, Pairs {})?;
     let mut methods = BTreeMap::new(alloc);
@@ -128,7 +128,7 @@ impl<R: Host> PairsClient<R> {
     }
 }
 
-/// The pair of no texts.
+/// Returns the pair without texts.
 pub fn nothing(alloc: Global) -> KeyValue {
     KeyValue {
         key: Text::new(alloc),

@@ -19,14 +19,14 @@ const ADDRESS: &str = "unix://pairs.sock";
 /// A pair's texts.
 type Texts = (&'static str, &'static str);
 
-/// What comes of a call: a pair, or a status.
+/// The result of a call: a pair, or a status.
 #[derive(Drop)]
 enum Comes {
     Pair(Texts),
     Status(i32, &'static str),
 }
 
-/// What `Turn` gives for a pair, one call behind the other.
+/// The results of `Turn` for pairs, one call after the other.
 const TURNED: &[(Texts, Comes)] = &[
     (("a", "b"), Comes::Pair(("b", "a"))),
     (("", "b"), Comes::Status(5, "no key")),
@@ -41,10 +41,10 @@ fn pair_of(alloc: Global, texts: Texts) -> Result<KeyValue, Fail> {
     })
 }
 
-/// Whether a row holds, or why a test ended.
+/// True if a row holds, or the reason why a test ended.
 type Holds = Result<bool, Fail>;
 
-/// Returns whether it came as said. Any other error than a status is the error.
+/// Returns whether the result is the expected one. Any other error than a status is returned as the error.
 fn is_as_said(came: Answer<KeyValue>, said: &Comes) -> Holds {
     match (came, said) {
         (Ok(pair), Comes::Pair(texts)) => {
@@ -58,7 +58,7 @@ fn is_as_said(came: Answer<KeyValue>, said: &Comes) -> Holds {
     }
 }
 
-/// Returns whether a pair is turned as said, by either handler.
+/// Returns whether both handlers turn a pair as expected.
 fn turns<R: Host>(client: &PairsClient<R>, alloc: Global, texts: Texts, said: &Comes) -> Holds {
     let pair = pair_of(alloc, texts)?;
     Ok(
@@ -77,7 +77,7 @@ fn pairs_turn<R: Host>(client: &PairsClient<R>, alloc: Global) -> Holds {
     Ok(true)
 }
 
-/// A context of a call that may take a while, with the text `kind` under the key `Tone`.
+/// Returns the context of a call with a long timeout, with the text `kind` for the key `Tone`.
 fn tone(alloc: Global) -> Result<Context, Fail> {
     let mut context = with_duration(alloc, Duration::from_secs(60))?;
     let key = String::from_str(alloc, "Tone")?;
@@ -97,7 +97,7 @@ fn finds<R: Host>(
     is_as_said(client.find(context, &pair), &Comes::Pair(("tone", text)))
 }
 
-/// Returns whether metadata comes with a call that may take a while.
+/// Returns whether metadata comes with a call with a long timeout.
 fn metadata_comes_along<R: Host>(client: &PairsClient<R>, alloc: Global) -> Holds {
     Ok(
         finds(client, alloc, tone(alloc)?, "kind")?
@@ -105,7 +105,7 @@ fn metadata_comes_along<R: Host>(client: &PairsClient<R>, alloc: Global) -> Hold
     )
 }
 
-/// A request of a method with bytes that are no pair.
+/// Returns a request of a method with bytes that are no pair.
 fn other_bytes(alloc: Global, method: &str) -> Result<Request, Fail> {
     Ok(Request {
         service: Text::from_str(alloc, "test.Pairs")?,
@@ -137,12 +137,12 @@ fn other_bytes_end_the_connection<R: Host>(client: &PairsClient<R>, alloc: Globa
     }
 }
 
-/// What the test asks of the system.
+/// The parts of the system that the test uses.
 trait Machine: Runtime + Files + Net<Listener = TcpListener, Stream = TcpStream> {}
 
 impl<R: Runtime + Files + Net<Listener = TcpListener, Stream = TcpStream>> Machine for R {}
 
-/// The service's server, which listens.
+/// Starts the service's server.
 fn start_pairs<R: Machine>(rt: &R) -> Result<Server<R, Handler, NoHook>, Fail> {
     let mut server = Server::new(rt.clone()?)?
         .bind(ADDRESS, true)?
@@ -151,13 +151,13 @@ fn start_pairs<R: Machine>(rt: &R) -> Result<Server<R, Handler, NoHook>, Fail> {
     Ok(server)
 }
 
-/// A client of it.
+/// Connects a client of the service.
 fn connect<R: Machine>(rt: &R) -> Result<PairsClient<R>, Fail> {
     let client = Client::connect(rt.clone()?, ADDRESS, true)?;
     Ok(PairsClient { client })
 }
 
-/// Returns whether all of it is called. The last call ends the connection.
+/// Returns whether all methods are called with the expected results. The last call ends the connection.
 fn service_is_called<R: Host>(client: &PairsClient<R>, alloc: Global) -> Holds {
     Ok(
         other_bytes_are_refused(client, alloc)?

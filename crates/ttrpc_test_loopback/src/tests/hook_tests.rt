@@ -1,23 +1,28 @@
-//! A hook of a polled server that answers at its limit.
+//! A hook that answers at its time limit, of a polled server and of one with threads.
 use crate::tests::peers::{SERVED, calls, hears_end};
 use crate::tests::polled::{Served, server_of};
 use futures::StreamExt;
 use std::alloc::{AllocError, Global};
+use std::collections::BTreeMap;
 use std::io;
-use std::net::{TcpListener, TcpStream};
-use std::sync::Arc;
+use std::net::{SocketAddr, TcpListener, TcpStream};
 use std::sync::atomic::{AtomicU64, Ordering};
+use std::sync::{Arc, Wait};
 use std::test::Fail;
 use std::thread::{Builder, Threads};
 use std::time::{Clock, Duration};
 use tokio::runtime::LocalRuntime;
 use ttrpc_bench::checks::check_named;
+use ttrpc_echo::Echo;
 use ttrpc_polled_echo::{System, nix};
 use ttrpc_polled_server::Watch;
 use ttrpc_proto::{Error, Result};
 use ttrpc_secure::{AcceptHook, HookError, HookOutput, Plain};
+use ttrpc_sync::Runtime;
+use ttrpc_sync_server::Server as ThreadedServer;
+use ttrpc_transport::PipeListener;
 
-/// A clock that is set on.
+/// A clock that a test advances.
 #[derive(Drop)]
 struct Shifted<C> {
     clock: C,
@@ -43,6 +48,10 @@ impl<C: Clone> Clone for Shifted<C> {
         })
     }
 }
+
+impl<C: Wait> Wait for Shifted<C> {}
+
+impl<C: Threads> Threads for Shifted<C> {}
 
 /// A hook that takes 30 seconds for the first connection.
 #[derive(Drop)]
@@ -72,7 +81,7 @@ impl<S> AcceptHook<S> for Slow {
     }
 }
 
-/// A watch that counts what it is told of hooks.
+/// A watch that counts the refusals of hooks.
 #[derive(Drop)]
 struct Refusals {
     count: Arc<AtomicU64, Global>,
@@ -88,8 +97,8 @@ impl Watch for Refusals {
     }
 }
 
-/// A clock, and a hook that sets it on.
-fn make_shifted<R: System>(rt: &R) -> Result<(Shifted<R>, Slow)> {
+/// Returns a clock, and a hook that advances it.
+fn make_shifted<R: Clock + Clone + AllocGlobal>(rt: &R) -> Result<(Shifted<R>, Slow)> {
     let nanoseconds = Arc::new(rt.alloc(), AtomicU64::new(0))?;
     let clock = Shifted {
         clock: rt.clone()?,
@@ -102,7 +111,7 @@ fn make_shifted<R: System>(rt: &R) -> Result<(Shifted<R>, Slow)> {
     Ok((clock, hook))
 }
 
-/// Serves one connection behind that hook, and counts its refusals.
+/// Serves one connection with that hook, and counts its refusals.
 fn serve_slowly<R: System>(
     rt: &R,
     listener: TcpListener,
@@ -130,6 +139,7 @@ fn start_slow<R: System + Threads + Send + 'static>(
     Ok(Served { address, thread })
 }
 
+// Should fail if each hook is late.
 #[test]
 fn a_hook_that_answers_at_its_limit_comes_too_late(
     rt: HostRuntime,
@@ -139,5 +149,44 @@ fn a_hook_that_answers_at_its_limit_comes_too_late(
     let mut first = TcpStream::connect(&rt, served.address)?;
     assert!(rt; hears_end(&mut first)? && calls(&rt, served.address, SERVED)?);
     served.thread.join(&rt)?;
+    check_named("its refusal isn't told", count.load(Ordering::SeqCst) == 1)
+}
+
+/// The system of the server with threads: that clock, and memory.
+type Late<R> = (Shifted<R>, Global);
+
+/// The server with threads and that hook, and its address.
+type Threaded<R> = (ThreadedServer<Late<R>, Echo, Slow, Refusals>, SocketAddr);
+
+/// Starts a server with threads and that hook at a free port, and counts its refusals.
+fn start_threaded<R: Runtime>(
+    rt: &R,
+    listener: TcpListener,
+    count: Arc<AtomicU64, Global>,
+) -> Result<Threaded<R>> {
+    let alloc = rt.alloc();
+    let address = nix(listener.local_addr())?;
+    let (clock, hook) = make_shifted(rt)?;
+    let mut methods = BTreeMap::new(alloc);
+    methods.insert(String::from_str(alloc, "/demo.Echo/Echo")?, Echo {})?;
+    let mut server = ThreadedServer::new((clock, alloc))?
+        .register_service(methods)?
+        .set_accept_hook(hook)?
+        .set_watch(Refusals { count })?
+        .add_listener(PipeListener::from_tcp(listener)?)?;
+    server.start()?;
+    Ok((server, address))
+}
+
+#[test]
+fn a_hook_of_a_server_with_threads_comes_too_late_at_its_limit(
+    rt: HostRuntime,
+) -> std::result::Result<(), Fail> {
+    let count = Arc::new(rt.alloc(), AtomicU64::new(0))?;
+    let listener = TcpListener::bind(&rt, "127.0.0.1:0")?;
+    let (server, address) = start_threaded(&rt, listener, Arc::try_clone(&count)?)?;
+    let mut first = TcpStream::connect(&rt, address)?;
+    assert!(rt; hears_end(&mut first)? && calls(&rt, address, SERVED)?);
+    server.shutdown();
     check_named("its refusal isn't told", count.load(Ordering::SeqCst) == 1)
 }

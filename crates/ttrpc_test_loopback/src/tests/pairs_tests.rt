@@ -1,4 +1,4 @@
-//! Each client at each server, by the words of the programs.
+//! Each client with each server, through the commands of the programs.
 use crate::tests::polled::start_polled;
 use std::alloc::Global;
 use std::net::{SocketAddr, TcpListener, TcpStream};
@@ -8,14 +8,14 @@ use ttrpc_echo::{System as ThreadedSystem, start_server};
 use ttrpc_polled_echo::System;
 use ttrpc_sync_server::NoWatch;
 
-/// What calls: a client with threads, by the words of `ttrpc-demo`, or a polled one, by those of `ttrpc-chat`.
+/// The caller: a client with threads, by the words of `ttrpc-demo`, or a polled one, by those of `ttrpc-chat`.
 #[derive(Clone, Copy, Debug)]
 enum Client {
     Threaded,
     Polled,
 }
 
-/// A run: who calls, the first word, those behind the address, the status, and what is written.
+/// A run: the caller, the first word, the words after the address, the status, and the output.
 type Run = (
     Client,
     &'static str,
@@ -83,7 +83,7 @@ const AT_THREADED: &[Run] = &[
     ),
 ];
 
-/// The words, with the address behind the first.
+/// Returns the words, with the address after the first.
 fn words_of(alloc: Global, first: &str, address: &str, rest: &[&str]) -> Result<Vec<String>, Fail> {
     let mut words = Vec::new(alloc);
     words.push(String::from_str(alloc, first)?)?;
@@ -94,7 +94,7 @@ fn words_of(alloc: Global, first: &str, address: &str, rest: &[&str]) -> Result<
     Ok(words)
 }
 
-/// Whether a run comes to its status and output.
+/// Returns whether a run has its status and output.
 fn is_so<R: ThreadedSystem + System + 'static>(
     rt: &R,
     address: &str,
@@ -130,7 +130,7 @@ fn text_of(alloc: Global, address: SocketAddr) -> Result<String, Fail> {
 
 #[test]
 fn both_clients_call_a_polled_server(rt: HostRuntime) -> Result<(), Fail> {
-    // The check of borrows covers a call over sockets only where their types are named here, too.
+    // The borrow check covers a call over sockets only if this function names their types, too.
     let _sockets: Option<(TcpListener, TcpStream)> = None;
     let served = start_polled(&rt, AT_POLLED.len())?;
     let address = text_of(rt.alloc(), served.address)?;
@@ -155,7 +155,7 @@ fn both_clients_call_a_server_with_threads(rt: HostRuntime) -> Result<(), Fail> 
     Ok(())
 }
 
-/// Whether words are refused by what they may be.
+/// Returns whether the words are refused with the usage.
 fn is_refused<R: System>(rt: &R, words: [&str; 3]) -> Result<bool, Fail> {
     let [first, address, rest] = words;
     let words = words_of(rt.alloc(), first, address, &[rest])?;
@@ -168,7 +168,7 @@ fn is_refused<R: System>(rt: &R, words: [&str; 3]) -> Result<bool, Fail> {
 
 #[test]
 fn wrong_words_have_a_status_of_their_own(rt: HostRuntime) -> Result<(), Fail> {
-    // A test must name the sockets of the system that it hands on.
+    // A test must name the sockets of the system that it passes on.
     let _sockets: Option<(TcpListener, TcpStream)> = None;
     for words in [
         ["unary", "tcp://127.0.0.1:1", "2"],
@@ -181,7 +181,7 @@ fn wrong_words_have_a_status_of_their_own(rt: HostRuntime) -> Result<(), Fail> {
     Ok(())
 }
 
-/// Whether a server that serves for no second tells its address, shuts down, and ends with status 0.
+/// Returns whether a server that serves for zero seconds reports its address, shuts down, and ends with status 0.
 fn serves_for_no_second<R: System>(rt: &R) -> Result<bool, Fail> {
     let words = words_of(rt.alloc(), "serve", "tcp://127.0.0.1:0", &["0"])?;
     let (mut output, mut errors) = (Vec::new(rt.alloc()), Vec::new(rt.alloc()));
@@ -193,7 +193,7 @@ fn serves_for_no_second<R: System>(rt: &R) -> Result<bool, Fail> {
 
 #[test]
 fn a_server_serves_for_as_long_as_it_is_told(rt: HostRuntime) -> Result<(), Fail> {
-    // A test must name the sockets of the system that it hands on.
+    // A test must name the sockets of the system that it passes on.
     let _sockets: Option<(TcpListener, TcpStream)> = None;
     check_named("it fails", serves_for_no_second(&rt)?)
 }

@@ -1,4 +1,4 @@
-//! Clients that say and hear bytes, by hand.
+//! Clients that write and read bytes by hand.
 use std::io::{self, Read, Write};
 use std::net::{Net, Shutdown, SocketAddr, TcpListener, TcpStream};
 
@@ -7,18 +7,18 @@ pub const ASKED: &[u8] = b"\0\0\0\x14\0\0\0\x01\x01\0\x0a\x09demo.Echo\x12\x04Ec
 
 pub const ECHOED: &[u8] = b"\0\0\0\x05\0\0\0\x01\x02\0\x0a\0\x12\x01\x2a";
 
-/// What is said, and what is heard then.
+/// The bytes that are written, and those that are read then.
 pub type Exchange = (&'static [u8], &'static [u8]);
 
-/// That request, and its answer.
+/// The exchange of that request and its answer.
 pub const SERVED: &[Exchange] = &[(ASKED, ECHOED)];
 
-/// What connects by TCP.
+/// A system that connects by TCP.
 pub trait Connects: Net<Listener = TcpListener, Stream = TcpStream> {}
 
 impl<R: Net<Listener = TcpListener, Stream = TcpStream>> Connects for R {}
 
-/// Whether these bytes come next.
+/// Returns whether these bytes come next.
 fn hears(stream: &mut TcpStream, expected: &[u8]) -> io::Result<bool> {
     let mut heard = [0u8; 64];
     let room = heard.len().min(expected.len());
@@ -26,13 +26,13 @@ fn hears(stream: &mut TcpStream, expected: &[u8]) -> io::Result<bool> {
     Ok(heard.get(..room) == Some(expected))
 }
 
-/// Whether no more comes.
+/// Returns whether no more bytes come.
 pub fn hears_end(stream: &mut TcpStream) -> io::Result<bool> {
     let mut heard = [0u8; 1];
     Ok(stream.read(&mut heard)? == 0)
 }
 
-/// Whether each answer comes, and then, behind the end of what is said, no more.
+/// Returns whether each answer comes, and no more bytes come after the client has closed its half.
 pub fn talks(stream: &mut TcpStream, exchanges: &[Exchange]) -> io::Result<bool> {
     for (said, answer) in exchanges {
         stream.write_all(said)?;
@@ -44,7 +44,7 @@ pub fn talks(stream: &mut TcpStream, exchanges: &[Exchange]) -> io::Result<bool>
     hears_end(stream)
 }
 
-/// The same of a client that connects there.
+/// Returns the same for a client that connects there.
 pub fn calls<R: Connects>(rt: &R, address: SocketAddr, exchanges: &[Exchange]) -> io::Result<bool> {
     let mut stream = TcpStream::connect(rt, address)?;
     talks(&mut stream, exchanges)

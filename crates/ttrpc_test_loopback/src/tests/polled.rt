@@ -1,4 +1,4 @@
-//! Polled servers in threads of their own.
+//! Polled servers, each in its own thread.
 use futures::StreamExt;
 use std::net::{SocketAddr, TcpListener};
 use std::test::Fail;
@@ -11,14 +11,14 @@ use ttrpc_polled_echo::{EchoServer, System, nix, services};
 use ttrpc_polled_server::Server;
 use ttrpc_proto::Result;
 
-/// A server's address, and its thread, which ends once it has served so many connections as it was told.
+/// A server's address, and its thread, which ends after it has served its number of connections.
 #[derive(Drop)]
 pub struct Served {
     pub address: SocketAddr,
     pub thread: JoinHandle<Result<()>>,
 }
 
-/// Serves so many connections at a free port.
+/// Starts a server of `count` connections at a free port.
 pub fn start_polled<R: System + Threads + Send + 'static>(
     rt: &R,
     count: usize,
@@ -39,7 +39,7 @@ fn serve<R: System>(rt: &R, listener: TcpListener, count: usize) -> Result<()> {
     nix(runtime.run_all(rt, serving.take(count)))
 }
 
-/// The server of `ttrpc-chat` at this listener, which soon tries again to accept.
+/// Returns the server of `ttrpc-chat` at this listener. It soon tries again if it can't accept.
 pub fn server_of<R: Timed>(
     rt: &R,
     handle: &Handle,

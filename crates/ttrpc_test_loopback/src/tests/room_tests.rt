@@ -1,4 +1,5 @@
-//! A peer that sends long requests and reads none of the answers at first: both servers wait until there is room for them.
+//! A peer that sends long requests and reads none of the answers at first. Both servers wait until there is room for
+//! the answers.
 use crate::tests::peers::Connects;
 use crate::tests::polled::start_polled;
 use std::alloc::Global;
@@ -12,21 +13,21 @@ use ttrpc_echo::start_server;
 use ttrpc_polled_echo::System;
 use ttrpc_sync_server::NoWatch;
 
-/// How many requests are sent, and how many bytes of each are echoed. All answers are more than the server's queue and the system
-/// hold.
+/// The number of requests, and the number of bytes of each that are echoed. All answers together are more than the
+/// server's queue and the system hold.
 const COUNT: u32 = 16;
 
 const LENGTH: usize = 1_000_000;
 
-/// What stands before the payload of a request of stream 1, and of its answer.
+/// The bytes before the payload in a request of stream 1, and in its answer.
 const ASKED: &[u8] = b"\0\x0f\x42\x55\0\0\0\x01\x01\0\x0a\x09demo.Echo\x12\x04Echo\x1a\xc0\x84\x3d";
 
 const ECHOED: &[u8] = b"\0\x0f\x42\x46\0\0\0\x01\x02\0\x0a\0\x12\xc0\x84\x3d";
 
-/// Where the last byte of a stream's id stands in a frame.
+/// The place of the last byte of a stream id in a frame.
 const ID_AT: usize = 7;
 
-/// Sends the requests under the ids 1, 3 and so on.
+/// Sends the requests with the ids 1, 3 and so on.
 fn send_all(alloc: Global, stream: &mut TcpStream) -> Result<(), io::Error> {
     let mut frame = Vec::from_slice(alloc, ASKED)?;
     frame.resize(ASKED.len() + LENGTH, 7)?;
@@ -50,7 +51,7 @@ fn hear_one(stream: &mut TcpStream, payload: &mut Vec<u8>) -> Result<u8, Fail> {
     Ok(id)
 }
 
-/// Reads the answers, and returns how many ids they have.
+/// Reads the answers, and returns the number of their different ids.
 fn hear_all(alloc: Global, stream: &mut TcpStream) -> Result<usize, Fail> {
     let mut payload = Vec::new(alloc);
     payload.resize(LENGTH, 0)?;
@@ -61,7 +62,7 @@ fn hear_all(alloc: Global, stream: &mut TcpStream) -> Result<usize, Fail> {
     Ok(ids.len())
 }
 
-/// Sends all requests, and reads the answers once the server can take no more. Then there are no more requests.
+/// Sends all requests, and reads the answers after the server can take no more. After that it closes its half.
 fn sends_first<R: System + Connects + Threads + Send + 'static>(
     rt: &R,
     address: SocketAddr,
@@ -79,7 +80,7 @@ fn sends_first<R: System + Connects + Threads + Send + 'static>(
 
 #[test]
 fn a_server_with_threads_waits_for_room(rt: HostRuntime) -> Result<(), Fail> {
-    // The check of borrows covers a call over sockets only where their types are named here, too.
+    // The borrow check covers a call over sockets only if this function names their types, too.
     let _sockets: Option<(TcpListener, TcpStream)> = None;
     let server = start_server(rt.clone()?, "tcp://127.0.0.1:0", true, NoWatch {})?;
     let Some(address) = server.local_addr()? else {
@@ -92,7 +93,7 @@ fn a_server_with_threads_waits_for_room(rt: HostRuntime) -> Result<(), Fail> {
 
 #[test]
 fn a_polled_server_waits_for_room(rt: HostRuntime) -> Result<(), Fail> {
-    // The check of borrows covers a call over sockets only where their types are named here, too.
+    // The borrow check covers a call over sockets only if this function names their types, too.
     let _sockets: Option<(TcpListener, TcpStream)> = None;
     let served = start_polled(&rt, 1)?;
     assert_eq!(rt; sends_first(&rt, served.address)?, COUNT as usize);

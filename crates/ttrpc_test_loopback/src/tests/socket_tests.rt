@@ -1,4 +1,4 @@
-//! A polled server's connections over loopback, at clients that speak by hand.
+//! A polled server's connections over loopback, with clients that write and read by hand.
 use crate::tests::peers::{ASKED, Connects, Exchange, SERVED, calls, talks};
 use crate::tests::polled::start_polled;
 use std::alloc::AllocGlobal;
@@ -11,7 +11,7 @@ use std::thread;
 use std::time::{Duration, Instant};
 use ttrpc_bench::checks::check_named;
 
-/// A request for a method that isn't there, and its answer.
+/// A request for an unknown method, and its answer.
 const NO_METHOD: &[u8] = b"\0\0\0\x11\0\0\0\x01\x01\0\x0a\x09demo.Echo\x12\x04Nope";
 
 const ANSWER_TO_NO_METHOD: &[u8] = b"\0\0\0\x11\0\0\0\x01\x02\0\x0a\x0f\x08\x0c\x12\x0bNope method";
@@ -25,7 +25,7 @@ const IN_USE: &[u8] = b"\0\0\0\x1b\0\0\0\x03\x02\0\x0a\x19\x08\x03\x12\x15stream
 
 const ECHOED_THIRD: &[u8] = b"\0\0\0\x05\0\0\0\x03\x02\0\x0a\0\x12\x01\x2a";
 
-/// A stream whose only item is flagged as the last, and what answers it: the item, and a close; and the same of a sum.
+/// A stream with one item that is flagged as the last, and its answer: the item, and a close. Then the same for a sum.
 const LAST_ITEM: &[u8] = b"\
     \0\0\0\x11\0\0\0\x05\x01\x06\x0a\x09demo.Echo\x12\x04Chat\
     \0\0\0\x01\0\0\0\x05\x03\x01a";
@@ -47,9 +47,10 @@ const EXCHANGES: &[Exchange] = &[
     (LAST_OF_SUM, SUM),
 ];
 
+// Should fail if a listener never returns a connection.
 #[test]
 fn bytes_have_their_answers_over_loopback(rt: HostRuntime) -> Result<(), Fail> {
-    // The check of borrows covers a call over sockets only where their types are named here, too.
+    // The borrow check covers a call over sockets only if this function names their types, too.
     let _sockets: Option<(TcpListener, TcpStream)> = None;
     let served = start_polled(&rt, 1)?;
     assert!(rt; calls(&rt, served.address, EXCHANGES)?);
@@ -57,7 +58,7 @@ fn bytes_have_their_answers_over_loopback(rt: HostRuntime) -> Result<(), Fail> {
     Ok(())
 }
 
-/// Opens so many connections, asks on each, and closes it with an answer that wasn't read.
+/// Opens `count` connections, makes a call on each, and closes it with the answer unread.
 fn reset<R: Connects>(rt: &R, address: SocketAddr, count: usize) -> io::Result<()> {
     for _ in 0..count {
         let mut stream = TcpStream::connect(rt, address)?;
@@ -66,12 +67,12 @@ fn reset<R: Connects>(rt: &R, address: SocketAddr, count: usize) -> io::Result<(
     Ok(())
 }
 
-/// How many connections are reset.
+/// The number of connections that are reset.
 const RESETS: usize = 1000;
 
 #[test]
 fn who_calls_behind_resets_is_answered(rt: HostRuntime) -> Result<(), Fail> {
-    // The check of borrows covers a call over sockets only where their types are named here, too.
+    // The borrow check covers a call over sockets only if this function names their types, too.
     let _sockets: Option<(TcpListener, TcpStream)> = None;
     let served = start_polled(&rt, RESETS + 1)?;
     reset(&rt, served.address, RESETS)?;
@@ -80,7 +81,7 @@ fn who_calls_behind_resets_is_answered(rt: HostRuntime) -> Result<(), Fail> {
     Ok(())
 }
 
-/// Opens files until no descriptor is left, and then lets one go.
+/// Opens files until no descriptor is left, and then closes one.
 fn hoard<R: Files + AllocGlobal>(rt: &R) -> Result<Vec<R::File>, Fail> {
     let mut files = Vec::new(rt.alloc());
     for _ in 0..2_000_000u32 {
@@ -111,7 +112,7 @@ fn a_failed_accept_is_tried_again(rt: HostRuntime) -> Result<(), Fail> {
 /// The front of a header.
 const HALF: &[u8] = b"\0\0\0\x14\0";
 
-/// Opens so many connections, says half a header on each, and closes it at once.
+/// Opens `count` connections, writes half a header on each, and closes it at once.
 fn leave<R: Connects>(rt: &R, address: SocketAddr, count: usize) -> io::Result<()> {
     for _ in 0..count {
         let mut stream = TcpStream::connect(rt, address)?;
@@ -120,12 +121,13 @@ fn leave<R: Connects>(rt: &R, address: SocketAddr, count: usize) -> io::Result<(
     Ok(())
 }
 
-/// How many connections are left at once.
+/// The number of connections that are left at once.
 const LEFT: usize = 600;
 
+// Should fail if a lost event is waited for.
 #[test]
 fn who_leaves_at_once_is_let_go(rt: HostRuntime) -> Result<(), Fail> {
-    // The check of borrows covers a call over sockets only where their types are named here, too.
+    // The borrow check covers a call over sockets only if this function names their types, too.
     let _sockets: Option<(TcpListener, TcpStream)> = None;
     let served = start_polled(&rt, LEFT)?;
     leave(&rt, served.address, LEFT)?;

@@ -1,4 +1,4 @@
-//! How a polled server starts and stops.
+//! The starts and stops of a polled server.
 use crate::tests::peers::{Connects, SERVED, calls};
 use crate::tests::polled::server_of;
 use futures::future::select;
@@ -28,7 +28,7 @@ fn a_server_without_a_listener_does_not_start(rt: HostRuntime) -> Result<(), Fai
     }
 }
 
-/// A server at a free port.
+/// Returns a server at a free port.
 fn listening<R: System>(
     rt: &R,
     runtime: &LocalRuntime,
@@ -66,7 +66,7 @@ fn stop_twice<R: System>(
     Ok(())
 }
 
-/// Serves one connection, of a client that calls from another thread: whether it is answered.
+/// Serves one connection, of a client that calls from another thread. Returns whether the client is answered.
 fn serve_one<R: System + Connects + Threads + Send + 'static>(
     rt: &R,
     runtime: &mut LocalRuntime,
@@ -80,6 +80,7 @@ fn serve_one<R: System + Connects + Threads + Send + 'static>(
     Ok(caller.join(rt)?)
 }
 
+// Should fail if a server that listens reports that it has stopped.
 #[test]
 fn a_server_starts_again_behind_a_stop(rt: HostRuntime) -> Result<(), Fail> {
     let mut runtime = LocalRuntime::new(&rt)?;
@@ -111,7 +112,7 @@ fn a_server_that_is_shut_down_closes_its_listener(rt: HostRuntime) -> Result<(),
     Ok(())
 }
 
-/// Whether a server that shuts down says that something is left, within two seconds.
+/// Returns whether a server that shuts down reports within two seconds that waiters are left.
 fn leaves_something<R: System>(
     rt: &R,
     runtime: &mut LocalRuntime,
@@ -126,6 +127,7 @@ fn leaves_something<R: System>(
     }
 }
 
+// Should fail if a task that still accepts is waited for.
 #[test]
 fn a_shutdown_has_its_limit_while_who_accepts_stays(rt: HostRuntime) -> Result<(), Fail> {
     let mut runtime = LocalRuntime::new(&rt)?;
@@ -138,7 +140,7 @@ fn a_shutdown_has_its_limit_while_who_accepts_stays(rt: HostRuntime) -> Result<(
     )
 }
 
-/// Who accepts, and is kept behind the last connection.
+/// A stream of accepted connections, which is kept after its end.
 #[derive(Drop)]
 struct Kept<S> {
     serving: S,
@@ -163,7 +165,7 @@ where
     }
 }
 
-/// Whether a server that stops listening is told so within two seconds, while who accepted is kept.
+/// Returns whether stopping to listen ends within two seconds, while the accepting stream is kept.
 fn stops_beside<R: System>(
     rt: &R,
     runtime: &mut LocalRuntime,
@@ -179,9 +181,10 @@ fn stops_beside<R: System>(
     Ok(runtime.block_on(rt, timed)?.is_ok())
 }
 
+// Should fail if a task that accepts no more keeps its listener.
 #[test]
 fn who_accepts_no_more_gives_its_listener_back(rt: HostRuntime) -> Result<(), Fail> {
-    // The check of borrows covers a call over sockets only where their types are named here, too.
+    // The borrow check covers a call over sockets only if this function names their types, too.
     let _sockets: Option<(TcpListener, TcpStream)> = None;
     let mut runtime = LocalRuntime::new(&rt)?;
     let (mut server, _) = listening(&rt, &runtime)?;

@@ -14,7 +14,7 @@ const CHILDREN: u8 = 0x12;
 
 const BEST: u8 = 0x1a;
 
-/// A message with one in it, and so on: so many, each in a field of this tag.
+/// Returns the bytes of `levels` messages inside one another, each in a field with this tag.
 fn nested(alloc: Global, tag: u8, levels: usize) -> Result<Vec<u8>, AllocError> {
     let mut lengths = Vec::new(alloc);
     let mut length: u64 = 0;
@@ -30,17 +30,17 @@ fn nested(alloc: Global, tag: u8, levels: usize) -> Result<Vec<u8>, AllocError> 
     Ok(bytes)
 }
 
-/// Returns whether what the bytes mean is a tree that is written as these.
+/// Returns whether the bytes mean a tree that is written as these bytes.
 fn is_kept(alloc: Global, bytes: &[u8]) -> Result<bool, Fail> {
     is_written::<Tree>(alloc, bytes, bytes)
 }
 
-/// Returns whether the tree that the bytes mean nests too deep.
+/// Returns whether the bytes mean a tree that is nested too deep.
 fn is_too_deep(alloc: Global, bytes: &[u8]) -> bool {
     is_refused::<Tree>(alloc, bytes, CodecError::TooDeep)
 }
 
-/// Numbers of levels, and whether so many are taken.
+/// Numbers of levels, and whether this many are accepted.
 const LEVELS: &[(usize, bool)] = &[
     (0, true),
     (1, true),
@@ -49,7 +49,7 @@ const LEVELS: &[(usize, bool)] = &[
     (1000, false),
 ];
 
-/// Returns whether so many levels under this tag are taken, or refused.
+/// Returns whether `levels` levels with this tag are accepted, or refused.
 fn are_levels(alloc: Global, tag: u8, levels: usize, taken: bool) -> Result<bool, Fail> {
     let bytes = nested(alloc, tag, levels)?;
     if taken {
@@ -76,7 +76,7 @@ fn megabytes_of_levels_take_no_stack(rt: HostRuntime) -> Tested {
     check(is_long && is_too_deep(alloc, bytes.as_slice()))
 }
 
-/// A map's value in a map's value, and so on: so many. Each entry has no key.
+/// Returns the bytes of `levels` map values inside one another. Each entry has no key.
 fn nested_in_maps(alloc: Global, levels: usize) -> Result<Vec<u8>, AllocError> {
     let mut bytes = Vec::new(alloc);
     for _ in 0..levels {
@@ -101,7 +101,7 @@ fn an_entry_of_a_map_is_a_level_too(rt: HostRuntime) -> Tested {
     check(is_kept(alloc, most.as_slice())? && is_too_deep(alloc, more.as_slice()))
 }
 
-/// A tree of a hundred levels, made from the innermost one on.
+/// Returns a tree of a hundred levels, made from the innermost one on.
 fn deep_tree(alloc: Global) -> Result<Tree, Fail> {
     let mut tree = Tree::new(alloc);
     for _ in 0..100 {
@@ -140,7 +140,7 @@ fn bytes_are_taken_and_joined(rt: HostRuntime) -> Tested {
     check(is_empty && is_refused && is_joined && is_read_again(alloc, copy.as_bytes())?)
 }
 
-/// Returns whether these bytes are a tree of the name `a` with a child.
+/// Returns whether these bytes are a tree with the name `a` and a child.
 fn is_read_again(alloc: Global, bytes: &[u8]) -> Result<bool, Fail> {
     let same: Enclosed<TreeRules> = Enclosed::from_bytes(alloc, bytes)?;
     let message: Tree = same.message(alloc)?;
@@ -166,7 +166,7 @@ const GROWN: &[u8] = b"\x0a\x01a\
     \x2a\x03\x0a\x01f\
     \x32\x02\x03\x04";
 
-/// Returns whether the one child of the tree above has what is in it.
+/// Returns whether the one child of the tree above has the right members.
 fn has_grown_child(alloc: Global, tree: &Tree) -> Result<bool, Fail> {
     let mut all = tree.children.len() == 1;
     for child in tree.children.iter() {
@@ -184,7 +184,7 @@ fn what_is_in_a_tree_is_read(rt: HostRuntime) -> Tested {
     check(is_kept && has_grown_child(alloc, &tree)?)
 }
 
-/// Returns whether this has the name, the numbers and the children of the child of the tree above.
+/// Returns whether this tree has the name, the numbers and the children of the child of the tree above.
 fn is_grown(child: &Tree) -> bool {
     child.name.as_str() == "b"
         && child.numbers.as_slice() == &[-1, 1][..]
@@ -201,13 +201,13 @@ fn is_best_c(alloc: Global, child: &Tree) -> Result<bool, Fail> {
     Ok(best.name.as_str() == "c")
 }
 
-/// An optional message in two parts: the later one goes behind the first.
+/// An optional message in two parts: the later part is appended to the first.
 const PARTED: &[(&[u8], &[u8])] = &[(
     b"\x1a\x05\x0a\x01a\x12\0",
     b"\x1a\x03\x0a\x01a\x1a\x02\x12\0",
 )];
 
-/// One of several in two parts, and one behind another.
+/// One of several members: a message in two parts, and one after another member.
 const CHOSEN: &[(&[u8], &[u8])] = &[
     (b"\x22\x04\x0a\0\x0a\0", b"\x22\x02\x0a\0\x22\x02\x0a\0"),
     (b"\x22\x02\x0a\0", b"\x22\x02\x0a\0\x12\x01a\x22\x02\x0a\0"),
@@ -219,9 +219,9 @@ fn parts_are_joined(rt: HostRuntime) -> Tested {
     check_pairs::<Cell>(rt.alloc(), CHOSEN)
 }
 
-/// Bytes that mean no tree, and why: what is in one is read, too.
+/// Bytes that mean no tree, and their errors: the messages inside are read, too.
 const BAD_TREES: &[(&[u8], CodecError)] = &[
-    // the name of a child, of a child's child, of a child's best, and of one in a child's map
+    // the name of a child, of a child's child, of a child's best, and of a tree in a child's map
     (b"\x12\x03\x0a\x01\xff", CodecError::BadUtf8),
     (b"\x12\x05\x12\x03\x0a\x01\xff", CodecError::BadUtf8),
     (b"\x12\x05\x1a\x03\x0a\x01\xff", CodecError::BadUtf8),
@@ -229,14 +229,14 @@ const BAD_TREES: &[(&[u8], CodecError)] = &[
     // the key of a child's map, and a text of another message in a child
     (b"\x12\x05\x22\x03\x0a\x01\xff", CodecError::BadUtf8),
     (b"\x12\x05\x2a\x03\x0a\x01\xff", CodecError::BadUtf8),
-    // a child ends inside a field, its packed numbers end inside one, and one goes past 64 bits
+    // a child ends inside a field, its packed numbers end inside a number, and a number goes past 64 bits
     (b"\x12\x02\x0a\x05", CodecError::Truncated),
     (b"\x12\x03\x32\x01\x80", CodecError::Truncated),
     (
         b"\x12\x0c\x32\x0a\xff\xff\xff\xff\xff\xff\xff\xff\xff\x02",
         CodecError::BadVarint,
     ),
-    // a child has a field of no number, and one of no wire type
+    // a child has a field without a number, and one without a wire type
     (b"\x12\x02\x00\x00", CodecError::BadTag),
     (b"\x12\x01\x0b", CodecError::BadWireType),
 ];
@@ -246,7 +246,7 @@ fn bad_trees_are_refused(rt: HostRuntime) -> Tested {
     check_refusals::<Tree>(rt.alloc(), BAD_TREES)
 }
 
-/// A row of a number, a text, a sheet of a number under a key, and an empty row.
+/// A row of a number, a text, a sheet with a number under a key, and an empty row.
 const CELLS: &[u8] = b"\x0a\x09\x09\0\0\0\0\0\0\xf0\x3f\
     \x0a\x03\x12\x01a\
     \x0a\x12\x1a\x10\x0a\x0e\x0a\x01k\x12\x09\x09\0\0\0\0\0\0\0\x40\
@@ -270,7 +270,7 @@ fn messages_contain_one_another(rt: HostRuntime) -> Tested {
     check(is_kept && has_cells(alloc, &row)?)
 }
 
-/// Returns whether there is a sheet of one cell in it.
+/// Returns whether the cell has a sheet of one cell.
 fn has_small_sheet(alloc: Global, cell: &Cell) -> Result<bool, Fail> {
     let Some(CellKind::Sheet(sheet)) = &cell.kind else {
         return Ok(false);
@@ -279,7 +279,7 @@ fn has_small_sheet(alloc: Global, cell: &Cell) -> Result<bool, Fail> {
     Ok(sheet.cells.len() == 1)
 }
 
-/// Returns how many levels are below a tree, each taken out of the one above.
+/// Returns the number of levels below a tree, each taken out of the one above.
 fn levels_below(alloc: Global, tree: Tree) -> Result<usize, Fail> {
     let mut best = tree.best;
     for levels in 0..101 {

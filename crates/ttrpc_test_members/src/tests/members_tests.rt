@@ -1,4 +1,4 @@
-//! Messages as bytes, and what those bytes mean.
+//! Messages as bytes, and the meaning of those bytes.
 use crate::messages::{All, Choices, Figures, Labelled, Lists, Options, Tables};
 use crate::tests::vectors::{ALL, CHOICES, FIGURES, LABELLED, LISTS, OPTIONS, TABLES};
 use std::alloc::Global;
@@ -16,7 +16,7 @@ fn are_equal(a: &Figures, b: &Figures) -> bool {
     varints && zigzags && fixed
 }
 
-/// Returns whether what the bytes mean is written as these.
+/// Returns whether the bytes mean a value that is written as `written`.
 pub fn is_written<M: WireMessage>(
     alloc: Global,
     bytes: &[u8],
@@ -27,7 +27,7 @@ pub fn is_written<M: WireMessage>(
     Ok(encoded.as_slice() == written)
 }
 
-/// Checks that each pair of bytes means one value, whose written form the first ones are.
+/// Checks that both byte strings of each pair mean the same value. The first is its written form.
 pub fn check_pairs<M: WireMessage>(alloc: Global, rows: &[(&[u8], &[u8])]) -> Tested {
     for (at, (canonical, other)) in rows.iter().enumerate() {
         check_row(at, is_written::<M>(alloc, canonical, canonical)?)?;
@@ -82,7 +82,7 @@ fn nested_messages_are_one_value(rt: HostRuntime) -> Tested {
     check_pairs::<All>(rt.alloc(), ALL)
 }
 
-/// Bytes that mean none of the messages, and why.
+/// Bytes that mean none of the messages, and their errors.
 const REFUSED: &[(&[u8], CodecError)] = &[
     // a packed list ends inside a varint, and inside a number of eight bytes
     (b"\x0a\x02\x01\x80", CodecError::Truncated),
@@ -95,13 +95,13 @@ const REFUSED: &[(&[u8], CodecError)] = &[
     // a text of a list, and one of a message in a list
     (b"\x2a\x01\xff", CodecError::BadUtf8),
     (b"\x42\x03\x0a\x01\xff", CodecError::BadUtf8),
-    // a message of a list ends inside a field, and has a field of no number
+    // a message of a list ends inside a field, and has a field without a number
     (b"\x42\x02\x0a\x05", CodecError::Truncated),
     (b"\x42\x02\x00\x00", CodecError::BadTag),
     (b"\x42\x01\x0b", CodecError::BadWireType),
 ];
 
-/// Bytes that mean no map, and why.
+/// Bytes that mean no map, and their errors.
 const NO_TABLES: &[(&[u8], CodecError)] = &[
     (b"\x0a\x03\x0a\x01\xff", CodecError::BadUtf8),
     (b"\x0a\x03\x12\x01\xff", CodecError::BadUtf8),
@@ -118,7 +118,7 @@ const SPELLED: &[(&[u8], &[u8])] = &[
         b"\x0a\x06\x0a\x01k\x12\x01w",
         b"\x0a\x06\x0a\x01k\x12\x01v\x0a\x06\x12\x01w\x0a\x01k",
     ),
-    // a value in two parts is one message, within one entry alone
+    // a value in two parts is one message, but only within one entry
     (
         b"\x12\x0a\x08\0\x12\x06\x0a\x01a\x12\x01b",
         b"\x12\x0a\x12\x03\x0a\x01a\x12\x03\x12\x01b",
@@ -129,7 +129,8 @@ const SPELLED: &[(&[u8], &[u8])] = &[
     ),
 ];
 
-/// Other spellings of one of several: a message in two parts, one behind another member, and values of another wire type.
+/// Other spellings of one of several members: a message in two parts, a message after another member, and values of
+/// another wire type.
 const MERGED: &[(&[u8], &[u8])] = &[
     (
         b"\x1a\x06\x0a\x01a\x12\x01b",
@@ -143,7 +144,7 @@ const MERGED: &[(&[u8], &[u8])] = &[
     (b"\x12\x01a", b"\x12\x01a\x0a\x01b\x25\0\0\0\0"),
 ];
 
-/// Returns whether the bytes are refused so.
+/// Returns whether the bytes are refused with this error.
 pub fn is_refused<M: WireMessage>(alloc: Global, bytes: &[u8], error: CodecError) -> bool {
     match M::decode(alloc, bytes) {
         Ok(_message) => false,
@@ -151,7 +152,7 @@ pub fn is_refused<M: WireMessage>(alloc: Global, bytes: &[u8], error: CodecError
     }
 }
 
-/// Checks that each of the bytes is refused so.
+/// Checks that each of the byte strings is refused with its error.
 pub fn check_refusals<M: WireMessage>(alloc: Global, rows: &[(&[u8], CodecError)]) -> Tested {
     for (at, (bytes, error)) in rows.iter().enumerate() {
         check_row(at, is_refused::<M>(alloc, bytes, *error))?;
@@ -174,7 +175,7 @@ fn entries_are_read_in_any_spelling(rt: HostRuntime) -> Tested {
     check_pairs::<Tables>(rt.alloc(), SPELLED)
 }
 
-/// Two labels.
+/// Returns two labels.
 fn two_labels(alloc: Global) -> Result<Map<Text, Text>, Fail> {
     let mut labels = Map::new(alloc);
     labels.insert(Text::from_str(alloc, "a")?, Text::from_str(alloc, "b")?)?;

@@ -1,4 +1,4 @@
-//! Google's own messages: as its implementation writes them, in an `Any`, and as times of std's.
+//! Google's own messages: as its implementation writes them, in an `Any`, and as times of std.
 use crate::tests::members_tests::check_pairs;
 use crate::tests::well_known_vectors::{
     ANY, BOOL_VALUE, BYTES_VALUE, DOUBLE_VALUE, DURATION, EMPTY, FIELD_MASK, FLOAT_VALUE,
@@ -76,7 +76,7 @@ const ADDRESSES: &[(&str, bool)] = &[
     ("type.googleapis.com/google.protobuf.StringValue/", false),
 ];
 
-/// Returns whether an `Any` under the address, with no bytes, has a `StringValue` just where it should.
+/// Returns whether an `Any` with this address and without bytes has a `StringValue` exactly if it should.
 fn is_told(alloc: Global, address: &str, wanted: bool) -> Result<bool, Fail> {
     let type_url = Text::from_str(alloc, address)?;
     let value = Blob::new(alloc);
@@ -93,7 +93,7 @@ fn an_address_names_one_message(rt: HostRuntime) -> Tested {
     Ok(())
 }
 
-/// Seconds and nanoseconds, and whether they are a moment of std's and a span of std's.
+/// Seconds and nanoseconds, and whether they are a moment and a span of std.
 const TIMES: &[(i64, i32, bool, bool)] = &[
     (0, 0, true, true),
     (5, 999_999_999, true, true),
@@ -108,7 +108,7 @@ const TIMES: &[(i64, i32, bool, bool)] = &[
     (-9_223_372_036_854_775_808, 0, false, false),
 ];
 
-/// Returns whether a moment is taken just where it should be, and then comes back.
+/// Returns whether a moment is accepted exactly if it should be, and then comes back.
 fn is_moment(seconds: i64, nanos: i32, wanted: bool) -> bool {
     match (Timestamp { seconds, nanos }).to_system_time() {
         Ok(time) => match Timestamp::from_system_time(time) {
@@ -119,7 +119,7 @@ fn is_moment(seconds: i64, nanos: i32, wanted: bool) -> bool {
     }
 }
 
-/// Returns whether a span is taken just where it should be, and then comes back.
+/// Returns whether a span is accepted exactly if it should be, and then comes back.
 fn is_span(seconds: i64, nanos: i32, wanted: bool) -> bool {
     match (Duration { seconds, nanos }).to_std() {
         Ok(span) => match Duration::from_std(span) {

@@ -1,4 +1,4 @@
-//! How much a connection keeps at most, and how much it moves at once.
+//! The number of bytes that a connection keeps at most, and the number that it moves at once.
 ghost use Rattle.std.specs.Prelude.{⊤};
 
 use crate::tests::broken_tests::Silent;
@@ -17,10 +17,10 @@ use ttrpc_polled::{Held, OUTLET_LIMIT, Outlet};
 use ttrpc_polled_client::{Client, ClientConnection};
 use ttrpc_secure::Plain;
 
-/// How often a writer was offered something, and how many bytes in all.
+/// The number of offers to a writer, and the number of bytes in all offers.
 type Offered = Arc<Cell<(u32, usize)>, Global>;
 
-/// A writer that takes all that it is offered.
+/// A writer that takes all offered bytes.
 #[derive(Drop)]
 struct Taking {
     offered: Offered,
@@ -49,7 +49,7 @@ impl AsyncWrite for Taking {
     }
 }
 
-/// Counts offers, of which there are none yet.
+/// Returns a count without offers.
 fn nothing_offered(alloc: Global) -> Result<Offered, Fail> {
     Ok(Arc::new(alloc, Cell::new((0, 0)))?)
 }
@@ -60,7 +60,7 @@ const FRAME: usize = 4096;
 /// Frames that wait to be lent.
 #[derive(Drop)]
 struct Frames {
-    /// The bytes of all of them, and those of the first.
+    /// The number of bytes of all frames, and that of the first.
     left: usize,
     first: usize,
     driver: Option<Waker>,
@@ -131,7 +131,8 @@ impl Held for Frames {
     }
 }
 
-/// Returns how many bytes are kept, and how many are left to be lent, once an outlet has gathered from so many.
+/// Returns the number of bytes that are kept, and the number left to be lent, after an outlet has gathered from
+/// `length` bytes.
 fn gathered(alloc: Global, length: usize) -> Result<(usize, usize), Fail> {
     let offered = nothing_offered(alloc)?;
     let mut outlet = Outlet::new(alloc, Taking { offered })?;
@@ -144,6 +145,7 @@ fn gathered(alloc: Global, length: usize) -> Result<(usize, usize), Fail> {
     Ok((outlet.kept.bytes().len(), held.left))
 }
 
+// Seen to fail if an outlet gathers without a limit.
 #[test]
 fn an_outlet_keeps_no_frame_behind_its_limit(rt: HostRuntime) -> Result<(), Fail> {
     let (kept, left) = gathered(rt.alloc(), 409_600)?;
@@ -151,7 +153,7 @@ fn an_outlet_keeps_no_frame_behind_its_limit(rt: HostRuntime) -> Result<(), Fail
     check_named("it keeps too much, or loses something", is_so)
 }
 
-/// A client that writes to one who takes all, and to whom nothing comes.
+/// A client that writes to a writer that takes all, and reads from a reader that gives nothing.
 type Taken<R> = (
     Client<R, Plain, Plain>,
     ClientConnection<R, Silent, Taking, Plain, Plain>,
@@ -170,7 +172,7 @@ fn begin_long_call<R: System>(
     Ok(())
 }
 
-/// Returns how often a writer is offered something of such a call, and how many bytes in all.
+/// Returns the number of offers to a writer for such a call, and the number of bytes in all offers.
 fn offers_of_a_long_call<R: System>(rt: &R) -> Result<(u32, usize), Fail> {
     let mut runtime = LocalRuntime::new(rt)?;
     let offered = nothing_offered(rt.alloc())?;
@@ -182,7 +184,9 @@ fn offers_of_a_long_call<R: System>(rt: &R) -> Result<(u32, usize), Fail> {
     Ok(offered.get())
 }
 
-/// The frame has a header of 10 bytes, and a request of 11 for the service, 6 for the method, 4 before the payload, and that.
+/// The frame has a header of 10 bytes. Its request has 11 bytes for the service, 6 for the method, 4 before the
+/// payload, and the payload.
+// Seen to fail if an outlet offers a frame in parts.
 #[test]
 fn a_long_frame_leaves_by_one_write(rt: HostRuntime) -> Result<(), Fail> {
     check_named(
@@ -191,10 +195,10 @@ fn a_long_frame_leaves_by_one_write(rt: HostRuntime) -> Result<(), Fail> {
     )
 }
 
-/// A frame of a stream that a client has not opened.
+/// A frame of a stream that the client hasn't opened.
 const STRAY: &[u8; 11] = b"\0\0\0\x01\0\0\0\x07\x03\0\x7a";
 
-/// A reader that gives one such frame a read, so many in all, and then ends.
+/// A reader that gives one such frame a read, `left` in all, and then ends.
 #[derive(Drop)]
 struct Strays {
     left: Arc<Cell<u32>, Global>,
@@ -223,7 +227,7 @@ impl AsyncRead for Strays {
     }
 }
 
-/// Returns whether a connection is pending that is polled once, and how many frames its reader has left of so many.
+/// Polls a connection once. Returns whether it is pending, and how many of `frames` frames its reader still has.
 fn left_by_one_poll<R: System>(rt: &R, frames: u32) -> Result<(bool, u32), Fail> {
     let mut runtime = LocalRuntime::new(rt)?;
     let left = Arc::new(rt.alloc(), Cell::new(frames))?;
@@ -238,9 +242,10 @@ fn left_by_one_poll<R: System>(rt: &R, frames: u32) -> Result<(bool, u32), Fail>
     Ok((polled.is_none(), left.get()))
 }
 
+// Seen to fail if one poll makes 64 turns, or any number of them.
 #[test]
 fn one_poll_leaves_frames_for_the_next(rt: HostRuntime) -> Result<(), Fail> {
     let (is_pending, left) = left_by_one_poll(&rt, 10_000)?;
-    // One is handed on, and the next one is read.
+    // One frame is passed on, and the next one is read.
     check_named("it reads other frames", is_pending && left == 9_998)
 }

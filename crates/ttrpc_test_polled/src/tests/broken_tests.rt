@@ -1,28 +1,26 @@
-//! Connections that break: cut at each byte, and with a writer that fails behind each.
+//! Connections that break: cut at each byte, and with a writer that fails after each byte.
 ghost use Rattle.std.specs.Prelude.{⊤};
 
 use crate::tests::conversation_tests::speak;
-use crate::tests::sites::{System, Wired, client_over, make_wired};
-use futures::Future;
-use futures::future::Either;
+use crate::tests::sites::{System, client_over};
 use futures::task::{Context, Poll, Source, Waker};
 use std::alloc::Global;
 use std::io::{self, ErrorKind};
 use std::test::Fail;
-use tokio::io::{AsyncRead, AsyncWrite, DuplexStream};
+use tokio::io::{AsyncRead, AsyncWrite};
 use tokio::runtime::LocalRuntime;
-use ttrpc_bench::checks::{check_named, check_named_row};
+use ttrpc_bench::checks::check_named_row;
 use ttrpc_bench_polled::acts::{Act, Script};
-use ttrpc_bench_polled::lines::{Line, Side, Speaker};
+use ttrpc_bench_polled::lines::Line;
 use ttrpc_bench_polled::parts::{Fault, Parts};
 
-/// Two streams, and what a server says on them: an item of each, and the close of each.
+/// Two streams, and the frames of a server on them: an item of each, and the close of each.
 const TWO_STREAMS: &[u8] =
     b"\0\0\0\x11\0\0\0\x01\x01\x06\x0a\x09demo.Echo\x12\x04Chat\0\0\0\x11\0\0\0\x03\x01\x06\x0a\x09demo.Echo\x12\x04Chat";
 
 const SAID: &[u8] =
     b"\0\0\0\x01\0\0\0\x01\x03\0a\0\0\0\x01\0\0\0\x03\x03\0b\0\0\0\0\0\0\0\x01\x03\x05\0\0\0\0\0\0\0\x03\x03\x05";
-/// Where each of these frames ends.
+/// The ends of these frames.
 const ENDS: [usize; 4] = [11, 22, 32, 42];
 
 const CUT_BETWEEN: Act = Act::Receives(0, Err("socket err: socket disconnected"));
@@ -35,8 +33,8 @@ const CLOSED: Act = Act::Receives(0, Err("eof"));
 
 const REMOTE_CLOSED: Act = Act::Receives(0, Err("ttrpc err: remote stream closed"));
 
-/// Adds what is received from a stream whose item is whole or not, whose close is or not, and where the cut is between two frames
-/// or not.
+/// Adds the receipts from a stream. They depend on whether its item is whole, whether its close is whole, and whether
+/// the cut is between two frames.
 fn receipts(
     acts: &mut Vec<Act>,
     stream: usize,
@@ -58,7 +56,7 @@ fn receipts(
     Ok(())
 }
 
-/// Returns the same receipt from the stream of this number.
+/// Returns the same receipt from the stream with this number.
 fn of_stream(act: Act, stream: usize) -> Act {
     match act {
         Act::Receives(_, outcome) => Act::Receives(stream, outcome),
@@ -71,7 +69,7 @@ fn item_before(cut: usize, end: usize, item: &'static [u8]) -> Option<&'static [
     if cut >= end { Some(item) } else { None }
 }
 
-/// Returns acts that open two streams, and receive what comes of them if the connection is cut after so many bytes.
+/// Returns acts that open two streams, and receive their results if the connection is cut after `cut` bytes.
 fn cut_acts(alloc: Global, cut: usize) -> Result<Vec<Act>, Fail> {
     let is_between = cut == 0 || ENDS.contains(&cut);
     let mut acts = Vec::new(alloc);
@@ -83,7 +81,7 @@ fn cut_acts(alloc: Global, cut: usize) -> Result<Vec<Act>, Fail> {
     Ok(acts)
 }
 
-/// Returns whether each stream is told so where the connection is cut behind so many bytes.
+/// Returns whether each stream gets the right results if the connection is cut after `cut` bytes.
 fn is_told_of_a_cut<R: System>(rt: &R, cut: usize) -> Result<bool, Fail> {
     let acts = cut_acts(rt.alloc(), cut)?;
     let said = SAID.get(..cut).unwrap_or(&[]);
@@ -104,83 +102,7 @@ fn each_stream_is_told_once_that_its_connection_was_cut(rt: HostRuntime) -> Resu
     Ok(())
 }
 
-/// A side of a conversation that stays behind its last line, and reads no more.
-#[derive(Drop)]
-struct Stays<'a> {
-    speaker: Option<Speaker<'a, DuplexStream, DuplexStream>>,
-    said: Option<Speaker<'a, DuplexStream, DuplexStream>>,
-    never: Source,
-    slot: Option<Waker>,
-}
-
-impl Future for Stays<'_> {
-    type Output = ();
-
-    fn poll(&mut self, cx: &mut Context<'_>) -> Poll<()> {
-        if let Some(mut speaker) = self.speaker.take() {
-            if speaker.poll(cx).is_pending() {
-                self.speaker = Some(speaker);
-                return Poll::Pending;
-            }
-            self.said = Some(speaker);
-        }
-        cx.register(&self.never, &mut self.slot)
-    }
-}
-
-impl<'a> Stays<'a> {
-    /// Begins this side, before its first line.
-    fn new(speaker: Speaker<'a, DuplexStream, DuplexStream>) -> Stays<'a> {
-        Stays {
-            speaker: Some(speaker),
-            said: None,
-            never: Source::new(),
-            slot: None,
-        }
-    }
-}
-
-/// Does these acts beside a server that says its part of these lines, and then reads nothing.
-fn run_beside_unread<R: System>(
-    rt: &R,
-    acts: &[Act],
-    lines: &[Line<'_>],
-) -> Result<Option<Fault>, Fail> {
-    let mut runtime = LocalRuntime::new(rt)?;
-    let Wired {
-        client,
-        connection,
-        reader,
-        writer,
-    } = make_wired(rt, runtime.handle(), 100)?;
-    let stays = Stays::new(Speaker::new(Side::Server, lines, reader, writer));
-    let script = Script::new(client, acts);
-    let mut parts = Parts::beside(rt.alloc(), script, Either::Left(connection))?;
-    parts.goes(Either::Right(stays))?;
-    Ok(runtime.block_on(rt, parts)?)
-}
-
-/// What comes on two streams while the bytes of a call are never read.
-const BESIDE_UNREAD: &[Act] = &[
-    Act::Opens("Chat", b"", true, true),
-    Act::Opens("Chat", b"", true, true),
-    Act::CallsLong(250_000),
-    Act::Begins(0),
-    Act::Yields(100),
-    Act::Receives(1, Ok(b"b")),
-    Act::Receives(0, Ok(b"a")),
-    CLOSED,
-    REMOTE_CLOSED,
-];
-
-#[test]
-fn streams_receive_beside_bytes_that_are_never_read(rt: HostRuntime) -> Result<(), Fail> {
-    let lines = [Line::Up(TWO_STREAMS), Line::Down(SAID)];
-    let fault = run_beside_unread(&rt, BESIDE_UNREAD, &lines)?;
-    check_named("an act or a line comes otherwise", fault.is_none())
-}
-
-/// A reader to which nothing comes.
+/// A reader that gives nothing.
 #[derive(Drop)]
 pub struct Silent {
     source: Source,
@@ -188,7 +110,7 @@ pub struct Silent {
 }
 
 impl Silent {
-    /// Makes a reader that nobody has asked yet.
+    /// Returns a reader that wasn't polled yet.
     pub fn new() -> Silent {
         Silent {
             source: Source::new(),
@@ -215,7 +137,7 @@ impl AsyncRead for Silent {
     }
 }
 
-/// A writer that takes so many bytes, and then fails.
+/// A writer that takes `left` bytes, and then fails.
 #[derive(Drop)]
 struct Failing {
     left: usize,
@@ -246,7 +168,7 @@ impl AsyncWrite for Failing {
     }
 }
 
-/// A request of 38 bytes, whose outcome is the writer's failure, and a later request, which answers the same.
+/// A request of 38 bytes, with the writer's failure as its outcome, and a later request, with the same outcome.
 const FAILED: &[Act] = &[
     Act::Calls("Echo", b"\x01\x02\x03", 10_000_000_000),
     Act::Ends(0, Err("socket err: broken pipe")),
@@ -254,7 +176,7 @@ const FAILED: &[Act] = &[
     Act::Ends(1, Err("socket err: broken pipe")),
 ];
 
-/// Does these acts over a writer that fails behind so many bytes.
+/// Does these acts over a writer that fails after `left` bytes.
 fn run_failing<R: System>(rt: &R, left: usize, acts: &[Act]) -> Result<Option<Fault>, Fail> {
     let mut runtime = LocalRuntime::new(rt)?;
     let (client, connection) = client_over(rt, runtime.handle(), Silent::new(), Failing { left })?;

@@ -12,7 +12,7 @@ use ttrpc_polled_client::{Client, ClientRequest};
 use ttrpc_proto::{Error, Response, Result as RpcResult};
 use ttrpc_secure::Plain;
 
-// Whether a call's deadline has passed.
+// Returns whether a call's deadline has passed.
 fn has_expired(outcome: RpcResult<Response>) -> bool {
     match outcome {
         Err(Error::Others(text)) => text.as_str() == "Request deadline elapsed",
@@ -20,10 +20,10 @@ fn has_expired(outcome: RpcResult<Response>) -> bool {
     }
 }
 
-/// A call of a client over no transform.
+/// A call of a client without transforms.
 type Call = ClientRequest<Plain, Plain>;
 
-/// What two calls came to.
+/// The outcomes of two calls.
 type Outcomes = (RpcResult<Response>, RpcResult<Response>);
 
 /// Makes a call of `Echo` with this payload and timeout in nanoseconds.
@@ -44,7 +44,7 @@ fn two_calls<R: System>(rt: &R, client: &Client<R, Plain, Plain>) -> Result<(Cal
     Ok((first, second))
 }
 
-/// Returns what two calls of a site come to.
+/// Returns the outcomes of two calls of a site.
 fn both_outcomes<R: System>(rt: &R, site: Site<R>, calls: (Call, Call)) -> Result<Outcomes, Fail> {
     let Site {
         mut runtime,
@@ -64,7 +64,7 @@ fn joined_calls_get_their_own_answers(rt: HostRuntime) -> Result<(), Fail> {
     check_named("a call has another answer", is_so)
 }
 
-/// Returns what a call of a site comes to.
+/// Returns the outcome of a call of a site.
 fn outcome_of<R: System>(rt: &R, site: Site<R>, call: Call) -> Result<RpcResult<Response>, Fail> {
     let Site {
         mut runtime,
@@ -87,7 +87,7 @@ fn a_long_call_passes_a_narrow_pipe(rt: HostRuntime) -> Result<(), Fail> {
     )
 }
 
-/// Makes a call whose bytes are many, and one with a limit of 50 ms.
+/// Makes a call with many bytes, and one with a timeout of 50 ms.
 fn long_and_limited<R: System>(
     rt: &R,
     client: &Client<R, Plain, Plain>,
@@ -98,7 +98,7 @@ fn long_and_limited<R: System>(
     Ok((other, call))
 }
 
-/// Returns what the second of two calls of a site comes to, which ends before the first.
+/// Returns the outcome of the second of two calls of a site, which ends before the first.
 fn second_outcome<R: System>(
     rt: &R,
     site: Site<R>,
@@ -119,7 +119,7 @@ fn second_outcome<R: System>(
     }
 }
 
-/// Returns whether a call with a limit of 50 ms is told within 500 ms that it has expired, behind one whose bytes are never read.
+/// Returns whether a call with a timeout of 50 ms expires within 500 ms, after a call with bytes that are never read.
 fn expires_in_time<R: System>(rt: &R) -> Result<bool, Fail> {
     let site = make_site(rt, 100, Manners::ReadsNothing)?;
     let calls = long_and_limited(rt, &site.client)?;
@@ -130,6 +130,7 @@ fn expires_in_time<R: System>(rt: &R) -> Result<bool, Fail> {
 }
 
 /// On a machine with other work one try may be late.
+// Should fail if the clock never advances; an alarm is never set.
 #[test]
 fn a_call_expires_whose_bytes_are_never_read(rt: HostRuntime) -> Result<(), Fail> {
     for _ in 0..5u8 {
@@ -140,7 +141,7 @@ fn a_call_expires_whose_bytes_are_never_read(rt: HostRuntime) -> Result<(), Fail
     Err("it comes late".into())
 }
 
-/// Returns what a call of a site comes to whose both ends are dropped.
+/// Returns the outcome of a call of a site if both ends are dropped.
 fn dropped_outcome<R: System>(
     rt: &R,
     site: Site<R>,
@@ -166,7 +167,7 @@ fn a_call_ends_whose_connection_is_dropped(rt: HostRuntime) -> Result<(), Fail> 
     )
 }
 
-/// A client that is dropped as this is polled.
+/// A client that is dropped when this is polled.
 #[derive(Drop)]
 struct Leaves<R: Timed> {
     client: Option<Client<R, Plain, Plain>>,
@@ -200,6 +201,7 @@ fn end_behind_the_client<R: System>(
     Ok(())
 }
 
+// Seen to fail if the last client's drop ends no connection.
 #[test]
 fn a_connection_ends_behind_its_client(rt: HostRuntime) -> Result<(), Fail> {
     let mut runtime = LocalRuntime::new(&rt)?;

@@ -1,4 +1,4 @@
-//! Clones of a client and of a sender, behind whose original they go on; and what is dropped of a stream.
+//! Clones of a client and of a sender, which work after the original was dropped, and dropped parts of a stream.
 use crate::tests::peer::Manners;
 use crate::tests::sites::{Ends, Site, System, done, is_answered, is_item, make_site, request};
 use futures::future::poll_immediate;
@@ -13,7 +13,7 @@ use ttrpc_proto::{Response, Result as RpcResult};
 use ttrpc_secure::Plain;
 use ttrpc_wire::Blob;
 
-/// Returns what a call of a clone comes to whose original is dropped.
+/// Returns the outcome of a clone's call after the original was dropped.
 fn clone_calls<R: System>(rt: &R) -> Result<RpcResult<Response>, Fail> {
     let Site {
         mut runtime,
@@ -27,16 +27,17 @@ fn clone_calls<R: System>(rt: &R) -> Result<RpcResult<Response>, Fail> {
     Ok(outcome)
 }
 
+// Seen to fail if a client's clone fails.
 #[test]
 fn a_clone_calls_behind_its_original(rt: HostRuntime) -> Result<(), Fail> {
     let outcome = clone_calls(&rt)?;
     check_named("it has another answer", is_answered(&outcome, b"1"))
 }
 
-/// The line of a client over no transform.
+/// The line of a client without transforms.
 type PlainLine = ClientLine<Plain, Plain>;
 
-/// Returns a clone of a stream's sender, which is dropped, and the stream's receiver.
+/// Returns a clone of a stream's sender, and the stream's receiver. The original sender is dropped.
 fn halves<R: System>(
     rt: &R,
     runtime: &mut LocalRuntime,
@@ -51,7 +52,7 @@ fn halves<R: System>(
     Ok((clone, receiver, ends))
 }
 
-/// Sends an item, and returns what comes of it.
+/// Sends an item, and returns the result.
 fn sent<R: System>(
     rt: &R,
     runtime: &mut LocalRuntime,
@@ -76,7 +77,7 @@ fn echoed<R: System>(
     done(rt, runtime, ends, receiver.recv())
 }
 
-/// Returns what comes back of an item that a clone sends, and what comes of one more once nobody receives.
+/// Returns the item that comes back after a clone sends one, and the result of sending another one without a receiver.
 fn clone_sends<R: System>(rt: &R) -> Result<(RpcResult<Blob>, RpcResult<()>), Fail> {
     let Site {
         mut runtime,
@@ -89,12 +90,14 @@ fn clone_sends<R: System>(rt: &R) -> Result<(RpcResult<Blob>, RpcResult<()>), Fa
     Ok((item, last))
 }
 
+// Seen to fail if a sender's clone ends with its original.
 #[test]
 fn a_clone_sends_behind_its_original(rt: HostRuntime) -> Result<(), Fail> {
     let (item, last) = clone_sends(&rt)?;
     check_named("an item is lost", is_item(&item, b"a") && last.is_ok())
 }
 
+// Seen to fail if a receiver's drop isn't reported.
 #[test]
 fn a_dropped_receiver_tells_its_line_once(rt: HostRuntime) -> Result<(), Fail> {
     let line = Arc::new(rt.alloc(), Lone::new(7u32))?;
@@ -107,6 +110,7 @@ fn a_dropped_receiver_tells_its_line_once(rt: HostRuntime) -> Result<(), Fail> {
     )
 }
 
+// Seen to fail if the last sender's drop isn't reported, or each sender's is.
 #[test]
 fn only_the_last_sender_tells_its_line(rt: HostRuntime) -> Result<(), Fail> {
     let line = Arc::new(rt.alloc(), Lone::new(7u32))?;
@@ -121,7 +125,7 @@ fn only_the_last_sender_tells_its_line(rt: HostRuntime) -> Result<(), Fail> {
     )
 }
 
-/// Returns whether an item waits to be sent whose call is polled once, and dropped then.
+/// Returns whether an item waits to be sent after its future is polled once. Then the future is dropped.
 fn waits_and_is_dropped<R: System>(
     rt: &R,
     runtime: &mut LocalRuntime,
@@ -131,7 +135,8 @@ fn waits_and_is_dropped<R: System>(
     Ok(runtime.block_on(rt, poll_immediate(sending))?.is_none())
 }
 
-/// Returns what comes back first of an item whose call is dropped, and of one behind it.
+/// Sends an item and drops its future, and sends another item. Returns whether the first waited, and the item that
+/// comes back first.
 fn first_of_two<R: System>(
     rt: &R,
     runtime: &mut LocalRuntime,
@@ -145,7 +150,7 @@ fn first_of_two<R: System>(
     Ok((is_dropped, item))
 }
 
-/// Returns the same of the first stream of a client.
+/// Returns the same for the first stream of a client.
 fn first_echo<R: System>(rt: &R) -> Result<(bool, RpcResult<Blob>), Fail> {
     let Site {
         mut runtime,
@@ -157,6 +162,7 @@ fn first_echo<R: System>(rt: &R) -> Result<(bool, RpcResult<Blob>), Fail> {
     first_of_two(rt, &mut runtime, ends, stream?)
 }
 
+// Seen to fail if a pending send that is dropped takes its item back.
 #[test]
 fn an_item_arrives_whose_call_is_dropped(rt: HostRuntime) -> Result<(), Fail> {
     let (is_dropped, item) = first_echo(&rt)?;

@@ -8,10 +8,10 @@ use ttrpc_bench_polled::lines::{Line, Side, Speaker};
 use ttrpc_bench_polled::parts::{Fault, Parts};
 use ttrpc_bench_polled::recorded::{Conversation, client_beside_go, client_beside_rust};
 
-/// How many bytes are under way at most each way.
+/// The number of bytes that may be under way in each direction.
 const ROOMS: [usize; 3] = [1, 11, 4096];
 
-/// Runs a client that does these acts beside a server that says its part of these lines.
+/// Runs a client that does these acts with a server that sends its part of these lines.
 pub fn speak<R: System>(
     rt: &R,
     room: usize,
@@ -31,7 +31,7 @@ pub fn speak<R: System>(
     Ok(runtime.block_on(rt, parts)?)
 }
 
-/// Fails unless this conversation goes as stated, however many bytes are under way.
+/// Fails unless this conversation goes as expected, for each number of bytes under way.
 fn understand<R: System>(rt: &R, conversation: Conversation) -> Result<(), Fail> {
     let (name, acts, lines) = conversation;
     for room in ROOMS {
@@ -54,7 +54,7 @@ fn recorded_servers_are_understood(rt: HostRuntime) -> Result<(), Fail> {
     Ok(())
 }
 
-/// A call that is dropped before its frame is written, and one behind it.
+/// A call that is dropped before its frame is written, and another one after it.
 const FORGOTTEN: &[Act] = &[
     Act::Calls("Echo", b"1", 0),
     Act::Begins(0),
@@ -63,12 +63,13 @@ const FORGOTTEN: &[Act] = &[
     Act::Ends(1, Ok(b"2")),
 ];
 
-/// Only the second call's request, under its own id, and its answer.
+/// Only the second call's request, with its own id, and its response.
 const REMEMBERED: &[Line<'static>] = &[
     Line::Up(b"\0\0\0\x14\0\0\0\x03\x01\0\x0a\x09demo.Echo\x12\x04Echo\x1a\x01\x32"),
     Line::Down(b"\0\0\0\x05\0\0\0\x03\x02\0\x0a\0\x12\x01\x32"),
 ];
 
+// Seen to fail if a call that is dropped before it is written leaves its frame.
 #[test]
 fn a_dropped_call_leaves_no_frame(rt: HostRuntime) -> Result<(), Fail> {
     let fault = speak(&rt, 4096, FORGOTTEN, REMEMBERED)?;

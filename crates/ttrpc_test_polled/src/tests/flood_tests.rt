@@ -1,4 +1,4 @@
-//! Connections whose input never runs dry, and one whose peer never reads, with a clock that the tests set on.
+//! Connections with endless input, and one with a peer that never reads. The tests advance the clock.
 ghost use Rattle.futures.specs.Task.{Keeps};
 ghost use Rattle.std.specs.Prelude.{◌≡◌, ⊤};
 
@@ -21,13 +21,13 @@ use ttrpc_bench_polled::acts::is_so;
 use ttrpc_polled_client::{Client, ClientConnection, ClientRequest};
 use ttrpc_secure::{HookOutput, Plain};
 
-/// A moment that is set on.
+/// A moment that a test advances.
 type Moment = Arc<AtomicU64, Global>;
 
-/// The moment at which a test begins: a timer of the event loop that is set for a later one doesn't ring.
+/// The moment at which a test begins: a timer of the event loop that is set for a later moment doesn't ring.
 const BEGIN: u64 = 1_000_000_000_000_000;
 
-/// A clock that a test sets on.
+/// A clock that a test advances.
 #[derive(Drop)]
 struct TestClock {
     moment: Moment,
@@ -51,10 +51,10 @@ impl Clone for TestClock {
     }
 }
 
-/// What a test's client asks of the system: a clock that is set on, and memory.
+/// The system of a test's client: a clock that a test advances, and memory.
 type Late = (TestClock, Global);
 
-/// Makes a clock that shows this moment.
+/// Returns a clock that shows this moment.
 fn late_of(alloc: Global, moment: &Moment) -> Result<Late, Fail> {
     let clock = TestClock {
         moment: Arc::try_clone(moment)?,
@@ -62,10 +62,10 @@ fn late_of(alloc: Global, moment: &Moment) -> Result<Late, Fail> {
     Ok((clock, alloc))
 }
 
-/// A frame of a stream that a client has not opened.
+/// A frame of a stream that the client hasn't opened.
 const STRAY: &[u8; 11] = b"\0\0\0\x01\0\0\0\x07\x03\0\x7a";
 
-/// A reader that gives one such frame a read, with a millisecond each, so many in all, and then ends.
+/// A reader that gives one such frame a read, with a millisecond each, `left` in all, and then ends.
 #[derive(Drop)]
 struct Strays {
     left: Arc<Cell<u32>, Global>,
@@ -139,10 +139,10 @@ impl AsyncWrite for Takes {
     }
 }
 
-/// How many frames come at most.
+/// The number of frames that come at most.
 const FRAMES: u32 = 10_000;
 
-/// Makes a call with a limit of 20 ms beside a flood. Whether it was told that this is over before many frames had come.
+/// Makes a call with a timeout of 20 ms during a flood. Returns whether it expires before many frames have come.
 fn expires_in_a_flood<R: System>(rt: &R) -> Result<bool, Fail> {
     let alloc = rt.alloc();
     let mut runtime = LocalRuntime::new(rt)?;
@@ -177,13 +177,14 @@ fn expires_in_a_flood<R: System>(rt: &R) -> Result<bool, Fail> {
     Ok(told && left.get() > FRAMES - 100)
 }
 
+// Seen to fail if no deadline is looked at while input keeps coming.
 #[test]
 fn a_call_expires_while_input_keeps_coming(rt: HostRuntime) -> Result<(), Fail> {
     check_named("it isn't told in time", expires_in_a_flood(&rt)?)
 }
 
-/// A client with a call that is polled once, whose peer never reads. Both go then, and a second passes behind each poll of the
-/// connection. Ready: whether that ended.
+/// A client with a call that is polled once, and with a peer that never reads. Then both are dropped, and a second
+/// passes after each poll of the connection. Ready with true if the connection ended.
 #[derive(Drop)]
 struct LastClient {
     client: Option<Client<Late, Plain, Plain>>,
@@ -194,7 +195,7 @@ struct LastClient {
 }
 
 impl LastClient {
-    /// Polls the call, and its connection behind that.
+    /// Polls the call, and then its connection.
     fn poll_both(&mut self, cx: &mut Context<'_>) -> Poll<()>
         ensures { Keeps cx.old cx.new }
     {
@@ -223,7 +224,8 @@ impl Future for LastClient {
     }
 }
 
-/// Whether the connection of a client whose peer never reads has ended, so many seconds behind the client.
+/// Returns whether the connection of a client with a peer that never reads ends within `seconds` seconds after the
+/// client is dropped.
 fn ends_within<R: System>(rt: &R, seconds: u32) -> Result<bool, Fail> {
     let alloc = rt.alloc();
     let mut runtime = LocalRuntime::new(rt)?;
@@ -248,6 +250,7 @@ fn ends_within<R: System>(rt: &R, seconds: u32) -> Result<bool, Fail> {
     Ok(runtime.block_on(rt, last)?)
 }
 
+// Seen to fail if a peer that never reads is waited for.
 #[test]
 fn a_connection_ends_a_while_behind_its_last_client(rt: HostRuntime) -> Result<(), Fail> {
     let is_so = !ends_within(&rt, 4)? && ends_within(&rt, 10)?;

@@ -1,4 +1,4 @@
-//! The calls of a stream, stepped by hand on a core that is lent.
+//! The futures of a stream, stepped by hand on a core that is lent.
 use crate::tests::peer::Manners;
 use crate::tests::sites::{Site, System, done, make_site, request};
 use std::alloc::Global;
@@ -13,13 +13,13 @@ use ttrpc_proto::{Error, Result as RpcResult};
 use ttrpc_secure::{ConnectionContext, Plain};
 use ttrpc_wire::Blob;
 
-/// The line of a client over no transform.
+/// The line of a client without transforms.
 type PlainLine = ClientLine<Plain, Plain>;
 
 /// The core of such a client.
 type Core = ClientCore<Plain, Plain>;
 
-/// Opens the first stream of a client, whose id is 1.
+/// Opens the first stream of a client, which has the id 1.
 fn first_stream<R: System>(rt: &R) -> Result<StreamInner<PlainLine>, Fail> {
     let Site {
         mut runtime,
@@ -31,15 +31,15 @@ fn first_stream<R: System>(rt: &R) -> Result<StreamInner<PlainLine>, Fail> {
     Ok(stream?)
 }
 
-/// Makes another core, without a stream.
-fn bare(alloc: Global) -> Core {
+/// Returns another core, without a stream.
+fn bare(alloc: Global) -> Result<Core, Fail> {
     let context = ConnectionContext::of_halves(alloc, Plain {}, Plain {});
-    ClientCore::new(alloc, ClientKind::Async, context)
+    Ok(ClientCore::new(alloc, ClientKind::Async, context)?)
 }
 
-/// Makes another core with a stream of that id, to which this came.
+/// Returns another core with a stream with that id, which got these bytes.
 fn lent(alloc: Global, came: &[u8]) -> Result<Core, Fail> {
-    let mut core = bare(alloc);
+    let mut core = bare(alloc)?;
     let opening = Opening {
         request: request(alloc, "Chat", b"", 0)?,
         streaming_client: true,
@@ -50,7 +50,7 @@ fn lent(alloc: Global, came: &[u8]) -> Result<Core, Fail> {
     Ok(core)
 }
 
-/// Writes all that the core has to write.
+/// Writes all bytes that the core has to write.
 fn write_all(core: &mut Core) {
     let mut buffer = [0u8; 64];
     for _ in 0..4u32 {
@@ -65,7 +65,7 @@ const ITEM: &[u8] = b"\0\0\0\x01\0\0\0\x01\x03\0\x2a";
 
 const ITEM_AND_END: &[u8] = b"\0\0\0\x01\0\0\0\x01\x03\0\x2a\0\0\0\0\0\0\0\x01\x03\x05";
 
-/// Returns whether an item has no answer as it is stepped twice, and is sent once its frame has left.
+/// Returns whether sending an item is pending in two steps, and succeeds after its frame has left.
 fn steps_of_sending(alloc: Global, sender: &StreamSender<PlainLine>) -> Result<bool, Fail> {
     let mut core = lent(alloc, b"")?;
     let mut sending = sender.send(Vec::from_slice(alloc, b"a")?);
@@ -84,7 +84,7 @@ fn has_come(given: &Option<RpcResult<Blob>>) -> bool {
     }
 }
 
-/// Returns whether an item is received, and then nothing yet.
+/// Returns whether an item is received, and nothing more yet.
 fn steps_of_receiving(
     alloc: Global,
     receiver: &mut StreamReceiver<PlainLine>,
@@ -104,7 +104,7 @@ fn items_are_stepped(rt: HostRuntime) -> Result<(), Fail> {
     check_named("a step comes to something else", is_so)
 }
 
-/// Returns whether a message is received, and then nothing yet.
+/// Returns whether a message is received, and nothing more yet.
 fn steps_of_messages(alloc: Global, inner: StreamInner<PlainLine>) -> Result<bool, Fail> {
     let mut core = lent(alloc, ITEM)?;
     let mut stream: ClientStream<Blob, Blob, PlainLine> = ClientStream::new(inner);
@@ -114,7 +114,7 @@ fn steps_of_messages(alloc: Global, inner: StreamInner<PlainLine>) -> Result<boo
     Ok(has_come(&first) && second.is_none())
 }
 
-/// Returns the message that came, or the error in its place.
+/// Returns the message that came, or the error instead of it.
 fn some(given: Option<RpcResult<Option<Blob>>>) -> Option<RpcResult<Blob>> {
     match given {
         Some(Ok(Some(item))) => Some(Ok(item)),
@@ -123,7 +123,7 @@ fn some(given: Option<RpcResult<Option<Blob>>>) -> Option<RpcResult<Blob>> {
     }
 }
 
-/// Returns whether a message is received, and then that there is none.
+/// Returns whether a message is received, and then the end.
 fn steps_to_the_end(alloc: Global, inner: StreamInner<PlainLine>) -> Result<bool, Fail> {
     let mut core = lent(alloc, ITEM_AND_END)?;
     let mut receiver: SSReceiver<Blob, PlainLine> = SSReceiver::new(inner);
@@ -134,7 +134,7 @@ fn steps_to_the_end(alloc: Global, inner: StreamInner<PlainLine>) -> Result<bool
     Ok(has_come(&first) && is_over)
 }
 
-/// Returns whether a stream is closed, and what answers is received behind that alone.
+/// Returns whether a stream is closed, and the response is received only after that.
 fn steps_of_closing(alloc: Global, inner: StreamInner<PlainLine>) -> Result<bool, Fail> {
     let mut core = lent(alloc, ITEM)?;
     let mut stream: ClientStreamSender<Blob, Blob, PlainLine> = ClientStreamSender::new(inner);
@@ -154,12 +154,15 @@ fn messages_are_stepped(rt: HostRuntime) -> Result<(), Fail> {
     check_named("a step comes to something else", is_so)
 }
 
-/// Returns whether a stream is opened on such a core, and once alone.
-fn steps_of_opening(alloc: Global, mut opening: ClientNewStream<Plain, Plain>) -> bool {
-    let mut core = bare(alloc);
+/// Returns whether a stream is opened on such a core, but only once.
+fn steps_of_opening(
+    alloc: Global,
+    mut opening: ClientNewStream<Plain, Plain>,
+) -> Result<bool, Fail> {
+    let mut core = bare(alloc)?;
     let first = opening.step(&mut core);
     let second = opening.step(&mut core);
-    first.is_ok() && matches!(&second, Err(Error::LocalClosed)) && core.lendable() > 0
+    Ok(first.is_ok() && matches!(&second, Err(Error::LocalClosed)) && core.lendable() > 0)
 }
 
 #[test]
@@ -172,6 +175,6 @@ fn an_opening_is_stepped(rt: HostRuntime) -> Result<(), Fail> {
     let opening = client.new_stream(request(rt.alloc(), "Chat", b"", 0)?, true, true)?;
     check_named(
         "a step comes to something else",
-        steps_of_opening(rt.alloc(), opening),
+        steps_of_opening(rt.alloc(), opening)?,
     )
 }

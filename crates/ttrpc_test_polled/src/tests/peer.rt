@@ -14,20 +14,20 @@ use ttrpc_secure::Plain;
 use ttrpc_server::{JobId, ServerCore};
 use ttrpc_wire::{Blob, Code};
 
-/// What it does with what comes.
+/// The behaviour of the peer.
 #[derive(Clone, Copy, Debug, PartialEq, Eq)]
 pub enum Manners {
-    /// It answers each call, and echoes each stream.
+    /// Answers each call, and echoes each stream.
     Echoes,
-    /// It answers nothing.
+    /// Answers nothing.
     IsSilent,
-    /// It answers two calls at once, the last first.
+    /// Waits for two calls, and answers the last first.
     AnswersBackwards,
-    /// It reads nothing.
+    /// Reads nothing.
     ReadsNothing,
 }
 
-/// The core of a server, and the jobs that it has under way.
+/// The core of a server, and its running jobs.
 #[derive(Drop)]
 pub struct PeerHeld {
     pub core: ServerCore<Plain, Plain>,
@@ -50,7 +50,7 @@ impl PeerHeld {
         }
     }
 
-    /// Takes what came for it, and answers.
+    /// Takes the new jobs, and answers them.
     fn serve(&mut self, alloc: Global) {
         for _ in 0..u64::MAX {
             let Some(job) = self.core.take_job() else {
@@ -100,7 +100,7 @@ impl PeerHeld {
     }
 }
 
-/// Makes the response of an OK status with this payload.
+/// Returns the response with an OK status and this payload.
 fn response_of(alloc: Global, payload: Blob) -> Response {
     let status = get_status(Code::OK, String::new(alloc));
     let mut response = Response::init_status(alloc, status);
@@ -108,14 +108,14 @@ fn response_of(alloc: Global, payload: Blob) -> Response {
     response
 }
 
-// A peer that finds no memory goes away, so that its client doesn't wait for it.
+// If memory is refused to the peer, it fails its connection, so that its client doesn't wait for it.
 fn leave_without_memory<T>(core: &mut ServerCore<Plain, Plain>, done: &Result<T>) {
     if let Err(Error::NoMemory) = done {
         core.fail(Error::NoMemory);
     }
 }
 
-// Sends back what came for a stream, and ends it where the other side closed.
+// Sends the received items of a stream back, and ends the stream if the other side closed it.
 fn echo(alloc: Global, core: &mut ServerCore<Plain, Plain>, id: JobId) {
     for _ in 0..u64::MAX {
         match core.recv(alloc, id) {
@@ -206,7 +206,7 @@ impl Held for PeerHeld {
     }
 }
 
-/// What the peer's future shares with nobody.
+/// The shared part of the peer's future, which only the peer uses.
 #[derive(Drop)]
 pub struct PeerShared {
     asked: Source,

@@ -20,12 +20,12 @@ use ttrpc_secure::{ConnectionContext, HookOutput, Plain};
 use ttrpc_server::{Rules, ServerCore};
 use ttrpc_wire::Blob;
 
-/// What a test needs of the system.
+/// The parts of the system that a test uses.
 pub trait System: Timed + Wait + Net + RandomSource {}
 
 impl<R: Timed + Wait + Net + RandomSource> System for R {}
 
-/// Both ends, which go on while this is polled. A peer that is over lets its ends of the pipes go.
+/// Both ends, which go on while this is polled. A peer that has ended drops its ends of the pipes.
 #[derive(Drop)]
 pub struct Ends<R: Timed> {
     connection: ClientConnection<R, DuplexStream, DuplexStream, Plain, Plain>,
@@ -61,7 +61,7 @@ pub struct Wired<R: Timed> {
     pub writer: DuplexStream,
 }
 
-/// Makes a client that reads and writes here, over no transform.
+/// Returns a client without transforms that uses this reader and this writer.
 pub fn client_over<R: System, S: AsyncRead, W: AsyncWrite>(
     rt: &R,
     handle: &Handle,
@@ -78,7 +78,7 @@ pub fn client_over<R: System, S: AsyncRead, W: AsyncWrite>(
     Ok(Client::over(rt.clone()?, handle, reader, writer, output)?)
 }
 
-/// Makes a client over bytes in memory, of which so many are under way at most.
+/// Returns a client over bytes in memory. At most `room` bytes are under way in each direction.
 pub fn make_wired<R: System>(rt: &R, handle: &Handle, room: usize) -> Result<Wired<R>, Fail> {
     let (up, up_far) = duplex(rt.alloc(), room.max(1))?;
     let (down, down_far) = duplex(rt.alloc(), room.max(1))?;
@@ -91,16 +91,16 @@ pub fn make_wired<R: System>(rt: &R, handle: &Handle, room: usize) -> Result<Wir
     })
 }
 
-/// Makes what a peer of these manners shares.
+/// Returns the shared part of a peer with this behaviour.
 fn peer_shared(alloc: Global, manners: Manners) -> Result<Arc<PeerShared, Global>, Fail> {
     let registry = registry(alloc)?;
     let context = ConnectionContext::of_halves(alloc, Plain {}, Plain {});
-    let core = ServerCore::new(alloc, Rules::Async, registry, context);
+    let core = ServerCore::new(alloc, Rules::Async, registry, context)?;
     let held = PeerHeld::new(alloc, core, manners);
     Ok(Arc::new(alloc, PeerShared::new(held))?)
 }
 
-/// Makes a peer of these manners that reads and writes here.
+/// Returns a peer with this behaviour that uses this reader and this writer.
 fn make_peer<R: System>(
     rt: &R,
     handle: &Handle,
@@ -126,7 +126,8 @@ pub struct Site<R: Timed> {
     pub ends: Ends<R>,
 }
 
-/// Makes a client over bytes in memory, of which so many are under way at most, beside a peer of these manners.
+/// Returns a client over bytes in memory, with a peer with this behaviour. At most `room` bytes are under way in each
+/// direction.
 pub fn make_site<R: System>(rt: &R, room: usize, manners: Manners) -> Result<Site<R>, Fail> {
     let runtime = LocalRuntime::new(rt)?;
     let Wired {
@@ -146,7 +147,7 @@ pub fn make_site<R: System>(rt: &R, room: usize, manners: Manners) -> Result<Sit
     })
 }
 
-/// Runs this beside both ends, until it is ready.
+/// Polls the future together with both ends, until the future is ready.
 pub fn done<R: System, F: Future>(
     rt: &R,
     runtime: &mut LocalRuntime,
@@ -163,7 +164,7 @@ where
     }
 }
 
-/// Returns whether a call came to this payload.
+/// Returns whether the outcome of a call has this payload.
 pub fn is_answered(outcome: &RpcResult<Response>, payload: &[u8]) -> bool {
     match outcome {
         Ok(response) => response.payload.as_slice() == payload,
@@ -179,7 +180,7 @@ pub fn is_item(outcome: &RpcResult<Blob>, item: &[u8]) -> bool {
     }
 }
 
-/// Makes a request of `demo.Echo` for this name, with this payload and timeout in nanoseconds.
+/// Returns a request of `demo.Echo` for this name, with this payload and this timeout in nanoseconds.
 pub fn request(
     alloc: Global,
     method: &str,
@@ -191,7 +192,7 @@ pub fn request(
     Ok(request)
 }
 
-/// Makes the same without a payload.
+/// Returns the same without a payload.
 fn empty_request(alloc: Global, method: &str, timeout_nano: i64) -> Result<Request, Fail> {
     let service = String::from_str(alloc, "demo.Echo")?;
     let method = String::from_str(alloc, method)?;

@@ -1,4 +1,5 @@
-//! Polled sockets of this machine: two that say something to each other, and clients that connect or are made of one.
+//! Polled sockets of this machine: two that write to each other, and clients that connect, or that are made from a
+//! socket.
 ghost use Rattle.futures.specs.Poll.{OnPending};
 ghost use Rattle.futures.specs.Task.{IsArmed, Keeps};
 
@@ -20,7 +21,7 @@ use ttrpc_polled_client::{Client, TcpConnection};
 use ttrpc_proto::Error;
 use ttrpc_secure::{ConnectionDataExt, Plain};
 
-/// A socket that says something, and then hears something. Ready: whether it did.
+/// A socket that writes some bytes, and then reads others. Ready with true if both succeeded.
 #[derive(Drop)]
 struct Talk<'a> {
     socket: &'a mut Socket,
@@ -30,7 +31,7 @@ struct Talk<'a> {
 }
 
 impl<'a> Talk<'a> {
-    /// Begins a talk.
+    /// Returns a talk before its first byte.
     fn new(socket: &'a mut Socket, says: &'static [u8], hears: &'static [u8]) -> Talk<'a> {
         Talk {
             socket,
@@ -40,7 +41,7 @@ impl<'a> Talk<'a> {
         }
     }
 
-    /// Goes on by one poll of the socket. Ready: whether it did all, or that it goes on.
+    /// Goes on by one poll of the socket. Ready with `None` if the talk goes on, or with whether it succeeded.
     fn poll_turn(&mut self, cx: &mut Context<'_>) -> Poll<Option<bool>>
         ensures registered { OnPending result (IsArmed cx.new) }
         ensures kept { Keeps cx.old cx.new }
@@ -106,7 +107,7 @@ impl Future for Talk<'_> {
     }
 }
 
-/// Connects a socket to this address. Whether its writes go out at once is `nodelay`.
+/// Connects a socket to this address. With `nodelay`, its writes go out at once.
 fn connected<R: System>(
     rt: &R,
     runtime: &mut LocalRuntime,
@@ -129,7 +130,7 @@ fn accepted<R: System>(
     Ok(far?)
 }
 
-/// Makes both ends of a connection to a listener.
+/// Returns both ends of a connection to a listener.
 fn both_ends<R: System>(
     rt: &R,
     runtime: &mut LocalRuntime,
@@ -142,13 +143,14 @@ fn both_ends<R: System>(
     Ok((near, far))
 }
 
-/// Makes a listener at a free port. Whether the writes of its sockets go out at once is `nodelay`.
+/// Returns a listener at a free port. With `nodelay`, the writes of its sockets go out at once.
 fn listening<R: System>(rt: &R, runtime: &LocalRuntime, nodelay: bool) -> Result<Listener, Fail> {
     let reactor = runtime.handle().reactor();
     Ok(Listener::bind(rt, rt.alloc(), reactor, "tcp://127.0.0.1:0", nodelay)?)
 }
 
-/// Makes both ends of a connection, and the loop that polls them. Whether the writes of each go out at once.
+/// Returns both ends of a connection, and the loop that polls them. The flags say whether the writes of each end go out
+/// at once.
 fn connection<R: System>(
     rt: &R,
     near: bool,
@@ -160,7 +162,7 @@ fn connection<R: System>(
     Ok((runtime, near, far))
 }
 
-/// Returns whether both ends say and hear what they are to.
+/// Returns whether both ends write and read the expected bytes.
 fn both_talk<R: System>(
     rt: &R,
     runtime: &mut LocalRuntime,
@@ -173,7 +175,7 @@ fn both_talk<R: System>(
     Ok(asked && told)
 }
 
-/// What is left to be read from a socket. Ready: whether that is nothing.
+/// The bytes that are left in a socket. Ready with true if there are none.
 #[derive(Drop)]
 struct Rest {
     socket: Socket,
@@ -192,7 +194,7 @@ impl Future for Rest {
     }
 }
 
-/// Returns whether both ends talk, and the one that stays hears nothing more behind that, as the other is dropped.
+/// Returns whether both ends talk, and the end that stays reads nothing more when the other one is dropped.
 fn talk_to_the_end<R: System>(rt: &R, near_stays: bool) -> Result<bool, Fail> {
     let (mut runtime, mut near, mut far) = connection(rt, true, true)?;
     let talked = both_talk(rt, &mut runtime, &mut near, &mut far)?;
@@ -202,25 +204,28 @@ fn talk_to_the_end<R: System>(rt: &R, near_stays: bool) -> Result<bool, Fail> {
     Ok(talked && is_over)
 }
 
+// Seen to fail if a socket writes twice. Should fail if a listener accepts twice; a socket reads twice, or writes nothing.
 #[test]
 fn sockets_talk_by_polls_to_the_end(rt: HostRuntime) -> Result<(), Fail> {
     let is_so = talk_to_the_end(&rt, true)? && talk_to_the_end(&rt, false)?;
     check_named("something else is heard", is_so)
 }
 
-/// Returns whether the writes of both ends go out at once exactly where each is told so, the far end by its listener.
+/// Returns whether the writes of both ends go out at once exactly if their flags say so. The far end gets its flag from
+/// the listener.
 fn is_told_of_delay<R: System>(rt: &R, near: bool, far: bool) -> Result<bool, Fail> {
     let (_runtime, near_end, far_end) = connection(rt, near, far)?;
     Ok(near_end.nodelay()? == near && far_end.nodelay()? == far)
 }
 
+// Seen to fail if a socket reports the other setting of TCP's delay.
 #[test]
 fn delay_is_off_where_it_is_told(rt: HostRuntime) -> Result<(), Fail> {
     let is_so = is_told_of_delay(&rt, true, false)? && is_told_of_delay(&rt, false, true)?;
     check_named("an end has the other setting", is_so)
 }
 
-/// A call and its answer.
+/// A call and its response.
 const LINES: &[Line<'static>] = &[
     Line::Up(b"\0\0\0\x14\0\0\0\x01\x01\0\x0a\x09demo.Echo\x12\x04Echo\x1a\x01\x31"),
     Line::Down(b"\0\0\0\x05\0\0\0\x01\x02\0\x0a\0\x12\x01\x31"),
@@ -228,12 +233,12 @@ const LINES: &[Line<'static>] = &[
 
 const ACTS: &[Act] = &[Act::Calls("Echo", b"1", 0), Act::Ends(0, Ok(b"1"))];
 
-/// A client over no transform, and its connection.
+/// A client without transforms, and its connection.
 type PlainClient<R> = Client<R, Plain, Plain>;
 
 type Tcp<R> = TcpConnection<R, Plain, Plain>;
 
-/// Returns the address that a client is given for this one.
+/// Returns the text of this address for a client.
 fn named<R: System>(rt: &R, address: SocketAddr) -> Result<String, Fail> {
     Ok(format!(in rt.alloc(); "tcp://{address}")?)
 }
@@ -249,7 +254,7 @@ fn client_at<R: System>(
     Ok(runtime.block_on(rt, connecting)??)
 }
 
-/// Makes a call over this connection, at the far end of which a recorded server answers.
+/// Makes a call over this connection. A recorded server responds at its far end.
 fn exchange<R: System>(
     rt: &R,
     runtime: &mut LocalRuntime,
@@ -264,7 +269,7 @@ fn exchange<R: System>(
     Ok(runtime.block_on(rt, parts)?)
 }
 
-/// Connects a client, and makes a call at the server that it reaches.
+/// Connects a client, and makes a call to the server that it reaches.
 fn call<R: System>(rt: &R, nodelay: bool) -> Result<Option<Fault>, Fail> {
     let mut runtime = LocalRuntime::new(rt)?;
     let mut listener = listening(rt, &runtime, true)?;
@@ -274,13 +279,14 @@ fn call<R: System>(rt: &R, nodelay: bool) -> Result<Option<Fault>, Fail> {
     exchange(rt, &mut runtime, client, connection, far)
 }
 
+// Seen to fail if no socket connects.
 #[test]
 fn a_client_connects_and_calls(rt: HostRuntime) -> Result<(), Fail> {
     let is_so = call(&rt, true)?.is_none() && call(&rt, false)?.is_none();
     check_named("an act or a line comes otherwise", is_so)
 }
 
-/// Returns whether a client whose hook refuses its socket is refused by that hook's text.
+/// Returns whether a client fails with its hook's text if the hook rejects the socket.
 fn is_refused<R: System>(rt: &R) -> Result<bool, Fail> {
     let (runtime, near, _far) = connection(rt, true, true)?;
     match Client::with_hook(rt.clone()?, runtime.handle(), near, &Rejects {}) {
@@ -291,7 +297,7 @@ fn is_refused<R: System>(rt: &R) -> Result<bool, Fail> {
     }
 }
 
-/// Returns whether a client knows its connection by the name that its hook gave.
+/// Returns whether a client has the datum that its hook gave for the connection.
 fn is_known<R: System>(rt: &R) -> Result<bool, Fail> {
     let (runtime, near, _far) = connection(rt, true, true)?;
     let stamps = Stamps { name: "the client" };
@@ -320,7 +326,7 @@ fn exchange_beside<R: System>(
     Ok(runtime.block_on_with(rt, tasks, parts)?)
 }
 
-/// Makes a call of a client whose connection is a task.
+/// Makes a call of a client with a connection that is a task.
 fn call_spawned<R: System>(rt: &R) -> Result<Option<Fault>, Fail> {
     let (mut runtime, near, far) = connection(rt, true, true)?;
     let tasks = runtime.task_set(rt)?;
@@ -328,6 +334,7 @@ fn call_spawned<R: System>(rt: &R) -> Result<Option<Fault>, Fail> {
     exchange_beside(rt, &mut runtime, &tasks, client, far)
 }
 
+// Should fail if a set doesn't poll a connection that is spawned.
 #[test]
 fn a_spawned_connection_is_polled(rt: HostRuntime) -> Result<(), Fail> {
     check_named(

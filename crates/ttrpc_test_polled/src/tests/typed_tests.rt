@@ -17,7 +17,7 @@ use ttrpc_polled_client::{Client, ClientLine, ClientNewStream};
 use ttrpc_proto::{Error, KeyValue, Result as RpcResult};
 use ttrpc_secure::Plain;
 
-/// A stream that is opened, and what comes on it: a message, none, and why there is nothing more.
+/// A stream that is opened, and the results of its receiver: a message, the end, and an error.
 #[derive(Drop)]
 struct Receipts {
     opening: ClientNewStream<Plain, Plain>,
@@ -74,7 +74,7 @@ impl Future for Receipts {
     }
 }
 
-/// Returns whether this comes as the receipt of this number, from 0.
+/// Returns whether this is the expected receipt with this number, from 0.
 fn is_stated(number: usize, given: &RpcResult<Option<KeyValue>>) -> bool {
     match (number, given) {
         (0, Ok(Some(pair))) => pair.key.as_str() == "k" && pair.value.as_str() == "v",
@@ -91,7 +91,7 @@ const LINES: &[Line<'static>] = &[
     Line::Down(b"\0\0\0\0\0\0\0\x01\x03\x05"),
 ];
 
-/// Prepares what comes on a stream that this client opens.
+/// Returns the receipts of a stream that this client opens.
 fn make_receipts<R: System>(rt: &R, client: &Client<R, Plain, Plain>) -> Result<Receipts, Fail> {
     let request = request(rt.alloc(), "Chat", b"", 0)?;
     Ok(Receipts {
@@ -101,7 +101,7 @@ fn make_receipts<R: System>(rt: &R, client: &Client<R, Plain, Plain>) -> Result<
     })
 }
 
-/// Receives beside a server that says its part of these lines.
+/// Receives the messages of a server that sends its part of these lines.
 fn receive<R: System>(rt: &R, lines: &[Line<'_>]) -> Result<Option<Fault>, Fail> {
     let mut runtime = LocalRuntime::new(rt)?;
     let wired = make_wired(rt, runtime.handle(), 4096)?;
@@ -117,6 +117,7 @@ fn receive<R: System>(rt: &R, lines: &[Line<'_>]) -> Result<Option<Fault>, Fail>
     Ok(runtime.block_on(rt, parts)?)
 }
 
+// Seen to fail if an `SSReceiver` loses an item.
 #[test]
 fn messages_come_until_there_are_no_more(rt: HostRuntime) -> Result<(), Fail> {
     let fault = receive(&rt, LINES)?;

@@ -1,4 +1,4 @@
-//! The recorded frames beside either core alone, without a reader, a writer or a handler.
+//! The recorded frames with either core alone, without a reader, a writer or a handler.
 use std::alloc::Global;
 use std::test::Fail;
 use ttrpc_bench::checks::check_named_row;
@@ -18,15 +18,15 @@ use ttrpc_wire::Codec;
 /// The job that a recorded server handled, and whether it is a stream's.
 type Handled = Option<(JobId, bool)>;
 
-/// Makes the core of a server that knows what the recorded ones know.
+/// Returns the core of a server with the registry of the recorded servers.
 fn server(alloc: Global, bare: bool) -> RpcResult<ServerCore<Plain, Plain>> {
     let mut registry = recorded_registry(alloc)?;
     registry.set_bare_openings(bare);
     let context = ConnectionContext::of_halves(alloc, Plain {}, Plain {});
-    Ok(ServerCore::new(alloc, Rules::Async, registry, context))
+    ServerCore::new(alloc, Rules::Async, registry, context)
 }
 
-/// Reads the response that a payload is.
+/// Decodes the response in a payload.
 fn response_in(alloc: Global, payload: &[u8]) -> RpcResult<Response> {
     match Response::decode(alloc, payload) {
         Ok(response) => Ok(response),
@@ -34,7 +34,8 @@ fn response_in(alloc: Global, payload: &[u8]) -> RpcResult<Response> {
     }
 }
 
-/// Does with the job what a handler did whose server said this frame: it sends an item, ends, or answers.
+/// Does with the job what its recorded handler did before the server sent this frame: it sends an item, ends, or
+/// answers.
 fn handle(
     alloc: Global,
     core: &mut ServerCore<Plain, Plain>,
@@ -62,7 +63,7 @@ fn handle(
     }
 }
 
-/// Returns whether these bytes, and no others, are what the core of a server lends. They are reported.
+/// Returns whether the core of a server lends exactly these bytes. They are reported as written.
 fn server_says(core: &mut ServerCore<Plain, Plain>, buffer: &mut [u8], frame: &[u8]) -> bool {
     let count = core.lend(buffer);
     let lent = core.lent();
@@ -70,7 +71,7 @@ fn server_says(core: &mut ServerCore<Plain, Plain>, buffer: &mut [u8], frame: &[
     buffer.get(..count) == Some(frame) && core.lendable() == 0
 }
 
-/// Feeds a frame, and takes the job that comes of it. Whether all of it was taken.
+/// Feeds a frame, and takes the resulting job. Returns whether all of the frame was taken.
 fn hear(
     alloc: Global,
     core: &mut ServerCore<Plain, Plain>,
@@ -84,7 +85,7 @@ fn hear(
     Ok(count == frame.len())
 }
 
-/// Hands the core the next line of a conversation. Returns whether what it does is as stated.
+/// Gives the core the next line of a conversation. Returns whether the core does what the line expects.
 fn answer_line(
     alloc: Global,
     core: &mut ServerCore<Plain, Plain>,
@@ -108,7 +109,7 @@ fn answer_line(
     }
 }
 
-/// Fails unless a server's core does as stated what was said to it.
+/// Fails unless a server's core does what these lines expect.
 fn serve(alloc: Global, bare: bool, said: Said) -> Result<(), Fail> {
     let (name, lines) = said;
     let mut core = server(alloc, bare)?;
@@ -140,7 +141,7 @@ fn a_core_serves_recorded_clients(rt: HostRuntime) -> Result<(), Fail> {
     Ok(())
 }
 
-/// A client's core, its last call or stream, and the lines that are still to be said.
+/// A client's core, its last call or stream, and the remaining lines.
 #[derive(Drop)]
 struct Caller {
     core: ClientCore<Plain, Plain>,
@@ -151,18 +152,18 @@ struct Caller {
 }
 
 impl Caller {
-    fn new(alloc: Global, lines: &'static [Line<'static>]) -> Caller {
+    fn new(alloc: Global, lines: &'static [Line<'static>]) -> RpcResult<Caller> {
         let context = ConnectionContext::of_halves(alloc, Plain {}, Plain {});
-        Caller {
-            core: ClientCore::new(alloc, ClientKind::Async, context),
+        Ok(Caller {
+            core: ClientCore::new(alloc, ClientKind::Async, context)?,
             call: 0,
             stream: 0,
             lines,
             at: 0,
-        }
+        })
     }
 
-    /// Returns the line that is said next.
+    /// Returns the next line.
     fn line(&self) -> Option<Line<'static>> {
         match self.lines.get(self.at) {
             Some(line) => Some(*line),
@@ -174,7 +175,7 @@ impl Caller {
         self.at = self.at.saturating_add(1);
     }
 
-    /// Does the act: whether it came to what is stated, unless nothing has come of it yet.
+    /// Does the act. Returns whether the result is the expected one, or `None` if there is no result yet.
     fn act(&mut self, alloc: Global, act: Act) -> RpcResult<Option<bool>> {
         match act {
             Act::Calls(name, payload, limit) => self.make_call(alloc, name, payload, limit)?,
@@ -232,7 +233,8 @@ impl Caller {
         Some(is_so(alloc, given, expected))
     }
 
-    /// Does the act, and hears what the server says until something comes of it: whether that is what is stated.
+    /// Does the act, and feeds the server's next lines until the act has a result. Returns whether it is the expected
+    /// one.
     fn acts(&mut self, alloc: Global, act: Act) -> RpcResult<bool> {
         for _ in 0..=self.lines.len() {
             if let Some(is_so) = self.act(alloc, act)? {
@@ -245,7 +247,8 @@ impl Caller {
         Ok(false)
     }
 
-    /// Returns whether what the core has to write is what the client says next. What the server says before it is heard.
+    /// Returns whether the bytes that the core has to write are the client's next lines. The server's lines before them
+    /// are fed.
     fn says(&mut self, alloc: Global) -> RpcResult<bool> {
         let mut buffer = [0u8; 64];
         for _ in 0..=self.lines.len() {
@@ -268,7 +271,7 @@ impl Caller {
         Ok(self.core.lendable() == 0)
     }
 
-    /// Hears what the server says next: whether it says anything.
+    /// Feeds the server's next line. Returns whether there is one.
     fn hears(&mut self, alloc: Global) -> RpcResult<bool> {
         match self.line() {
             Some(Line::Down(frame)) => {
@@ -285,10 +288,10 @@ impl Caller {
     }
 }
 
-/// Fails unless a client's core understands a conversation as stated.
+/// Fails unless a client's core understands a conversation as expected.
 fn understand(alloc: Global, conversation: Conversation) -> Result<(), Fail> {
     let (name, acts, lines) = conversation;
-    let mut caller = Caller::new(alloc, lines);
+    let mut caller = Caller::new(alloc, lines)?;
     for (at, act) in acts.iter().enumerate() {
         check_named_row(name, at, caller.acts(alloc, *act)? && caller.says(alloc)?)?;
     }

@@ -1,4 +1,4 @@
-//! The states of a client's calls and streams, stepped by hand on a core that is lent, beside the core of a server.
+//! The states of a client's calls and streams, stepped by hand on a core that is lent, with the core of a server.
 use std::alloc::Global;
 use std::sync::Arc;
 use ttrpc_bench_polled::acts::{Outcome, request};
@@ -13,40 +13,42 @@ use ttrpc_secure::{ConnectionContext, Plain};
 use ttrpc_server::{JobId, Rules, ServerCore};
 use ttrpc_wire::{Blob, Sequence, Text};
 
-/// A step. Calls, streams, sends and jobs have numbers from 0, in the order in which they come.
+/// A step. Calls, streams, sends and jobs have numbers from 0, in the order of their creation.
 #[derive(Clone, Copy, Debug)]
 pub enum Step {
-    /// A call of this name with this payload is made.
+    /// Makes a call of this name with this payload.
     Asks(&'static str, &'static [u8]),
-    /// The call of this number is stepped: nothing yet, or this outcome.
+    /// Steps the call with this number: no result yet, or this outcome.
     Steps(usize, Option<Outcome>),
-    /// A stream of this name is opened with this payload. Whether the client sends, and the server.
+    /// Opens a stream of this name with this payload. The flags say whether the client sends, and whether the server
+    /// does.
     Opens(&'static str, &'static [u8], bool, bool),
-    /// An item is sent on the stream of this number.
+    /// Sends an item on the stream with this number.
     Sends(usize, &'static [u8]),
-    /// The stream of this number is closed.
+    /// Closes the stream with this number.
     Closes(usize),
-    /// The send or close of this number is stepped: nothing yet, or sent, or refused by this text.
+    /// Steps the send or the close with this number: no result yet, or sent, or refused with this text.
     Stepped(usize, Option<std::result::Result<(), &'static str>>),
-    /// The client receives from the stream of this number: nothing yet, or this.
+    /// Receives at the client from the stream with this number: nothing yet, or this.
     Receives(usize, Option<Outcome>),
-    /// These bytes, and no others, are what the client has to write. They go to the server, so many at a time.
+    /// The client has exactly these bytes to write. They go to the server, with this number at a time.
     Up(&'static [u8], usize),
-    /// The same of the server.
+    /// The same for the server.
     Down(&'static [u8], usize),
-    /// Bytes that are not the server's own come to the client.
+    /// Bytes that aren't the server's come to the client.
     Comes(&'static [u8]),
-    /// Bytes that are not the client's own come to the server.
+    /// Bytes that aren't the client's come to the server.
     Strays(&'static [u8]),
-    /// The server takes a job: whether there is one.
+    /// Takes a job at the server. The flag says whether there is one.
     Takes(bool),
-    /// The server receives from the stream of the job of this number: nothing yet, or this.
+    /// Receives at the server from the stream of the job with this number: nothing yet, or this.
     Hears(usize, Option<Outcome>),
-    /// The server sends an item on it, or is refused by this text.
+    /// Sends an item on that stream at the server. If a text is given, that is refused with it.
     Says(usize, &'static [u8], Option<&'static str>),
-    /// The server ends it by nothing, or by a status of this code and message; or is refused by this text.
+    /// Ends that stream at the server, without a response or with a status with this code and message. If a text is
+    /// given, that is refused with it.
     Finishes(usize, Option<(i32, &'static str)>, Option<&'static str>),
-    /// The server answers the job of this number by an OK status and this payload.
+    /// Answers the job with this number with an OK status and this payload.
     Answers(usize, &'static [u8]),
 }
 
@@ -64,14 +66,14 @@ pub struct Bench {
 }
 
 impl Bench {
-    /// Makes both cores.
+    /// Returns a bench with both cores.
     pub fn new(alloc: Global) -> Result<Bench> {
         let near = ConnectionContext::of_halves(alloc, Plain {}, Plain {});
         let far = ConnectionContext::of_halves(alloc, Plain {}, Plain {});
         Ok(Bench {
             alloc,
-            client: ClientCore::new(alloc, ClientKind::Async, near),
-            server: ServerCore::new(alloc, Rules::Async, registry(alloc)?, far),
+            client: ClientCore::new(alloc, ClientKind::Async, near)?,
+            server: ServerCore::new(alloc, Rules::Async, registry(alloc)?, far)?,
             calls: Vec::new(alloc),
             streams: Vec::new(alloc),
             sends: Vec::new(alloc),
@@ -80,7 +82,7 @@ impl Bench {
         })
     }
 
-    /// Does a step: whether it came to what was stated.
+    /// Does a step. Returns whether the result is the expected one.
     pub fn take(&mut self, step: Step) -> Result<bool> {
         match step {
             Step::Asks(name, payload) => self.ask(name, payload),
@@ -232,7 +234,8 @@ impl Bench {
         Ok(true)
     }
 
-    /// Passes what the client has to write to the server, so many bytes at a time. Returns whether it was this.
+    /// Passes the bytes that the client has to write to the server, with `at_a_time` bytes at a time. Returns whether
+    /// they are these.
     fn pass_up(&mut self, bytes: &[u8], at_a_time: usize) -> Result<bool> {
         let mut passed = Vec::new(self.alloc);
         let mut buffer = vec![in self.alloc; 0u8; at_a_time.max(1)]?;
@@ -250,7 +253,7 @@ impl Bench {
         Ok(passed.as_slice() == bytes)
     }
 
-    /// Passes what the server has to write to the client.
+    /// Passes the bytes that the server has to write to the client, in the same way.
     fn pass_down(&mut self, bytes: &[u8], at_a_time: usize) -> Result<bool> {
         let mut passed = Vec::new(self.alloc);
         let mut buffer = vec![in self.alloc; 0u8; at_a_time.max(1)]?;
@@ -269,14 +272,14 @@ impl Bench {
     }
 }
 
-/// Returns what a receipt from this stream comes to on a core that is lent.
+/// Returns the result of a receipt from this stream on a core that is lent.
 fn receipt<C: StreamCore>(alloc: Global, core: &mut C, id: C::Id) -> Result<Option<Result<Blob>>> {
     let line = Arc::new(alloc, Lone::new(id))?;
     let mut receiver = StreamReceiver::new(alloc, line, id);
     Ok(receiver.recv().step(core))
 }
 
-/// Returns what was given, but that memory was refused, which ends the test: what follows is then another story.
+/// Returns the result, but ends the test with an error if memory was refused: the rest would be another story.
 fn memory_is_found<T>(given: Result<T>) -> Result<Result<T>> {
     match given {
         Err(Error::NoMemory) => Err(Error::NoMemory),
@@ -292,7 +295,7 @@ fn has_text(alloc: Global, error: &Error, text: &str) -> Result<bool> {
     }
 }
 
-/// Returns whether this was to be given.
+/// Returns whether this is the expected result.
 fn came_to(alloc: Global, given: Result<Blob>, expected: Option<Outcome>) -> Result<bool> {
     match (memory_is_found(given)?, expected) {
         (Ok(given), Some(Ok(bytes))) => Ok(given.as_slice() == bytes),
@@ -301,7 +304,7 @@ fn came_to(alloc: Global, given: Result<Blob>, expected: Option<Outcome>) -> Res
     }
 }
 
-/// Returns whether it was done, or refused by this text.
+/// Returns whether it succeeded, or was refused with this text if one is given.
 fn is_told(alloc: Global, told: Result<()>, refusal: Option<&'static str>) -> Result<bool> {
     match (memory_is_found(told)?, refusal) {
         (Ok(()), None) => Ok(true),
@@ -317,7 +320,7 @@ fn payload_of(outcome: Result<Response>) -> Result<Blob> {
     }
 }
 
-/// Makes the response of a status of this code and message.
+/// Returns the response with a status with this code and message.
 fn response_of(alloc: Global, code: i32, message: &str) -> Result<Response> {
     let status = Status {
         code,

@@ -3,18 +3,18 @@ use std::alloc::Global;
 use std::test::Fail;
 use ttrpc_bench::checks::check_named_row;
 
-/// A stream, as a client that sends and receives opens it; its items and its close.
+/// The request of a stream that a client opens to send and receive, the stream's items and its close.
 const OPENS: &[u8] = b"\0\0\0\x11\0\0\0\x01\x01\x06\x0a\x09demo.Echo\x12\x04Chat";
 
 const ITEMS_AND_CLOSE: &[u8] =
     b"\0\0\0\x01\0\0\0\x01\x03\0a\0\0\0\0\0\0\0\x01\x03\0\0\0\0\x01\0\0\0\x01\x03\0b\0\0\0\0\0\0\0\x01\x03\x05";
 
 const CLOSE: &[u8] = b"\0\0\0\0\0\0\0\x01\x03\x05";
-/// An item behind which nothing comes.
+/// An item that is flagged as the last one.
 const LAST: &[u8] = b"\0\0\0\x01\0\0\0\x01\x03\x01\x7a";
-/// A status of code 5 and message `gone`.
+/// A status with the code 5 and the message `gone`.
 const GONE: &[u8] = b"\0\0\0\x0a\0\0\0\x01\x02\0\x0a\x08\x08\x05\x12\x04gone";
-/// A stream of the server alone, opened without a payload.
+/// The request of a stream on which only the server sends, without a payload.
 const OPENS_FOR_SERVER: &[u8] = b"\0\0\0\x11\0\0\0\x01\x01\x01\x0a\x09demo.Echo\x12\x04Chat";
 /// Two calls, and the answers to both, the second first.
 const TWO_CALLS: &[u8] =
@@ -27,7 +27,7 @@ const REMOTE_CLOSED: &str = "ttrpc err: remote stream closed";
 
 const LOCAL_CLOSED: &str = "ttrpc err: local stream closed";
 
-/// Items in order, one of them empty, and the end; each send is told once its frame has left.
+/// Items in order, one of them empty, and the end. Each send is done after its frame has left.
 const ITEMS: &[Step] = &[
     Step::Opens("Chat", b"", true, true),
     Step::Up(OPENS, 1),
@@ -58,7 +58,7 @@ const ITEMS: &[Step] = &[
     Step::Receives(0, None),
 ];
 
-/// A server's stream begins with an empty item, as it has no payload.
+/// A stream on which only the server sends begins with an empty item, as its request has no payload.
 const FOR_SERVER: &[Step] = &[
     Step::Opens("Chat", b"", false, true),
     Step::Up(OPENS_FOR_SERVER, 5),
@@ -91,7 +91,7 @@ const SERVER_CLOSES: &[Step] = &[
     Step::Receives(0, Some(Err(REMOTE_CLOSED))),
 ];
 
-/// A server that ends by a status.
+/// A server that ends with a status.
 const SERVER_FAILS: &[Step] = &[
     Step::Opens("Chat", b"", true, true),
     Step::Up(OPENS, 100),
@@ -102,7 +102,7 @@ const SERVER_FAILS: &[Step] = &[
     Step::Receives(0, Some(Err(REMOTE_CLOSED))),
 ];
 
-/// Two calls that are answered in the other order, each by its own answer, which is given once.
+/// Two calls that are answered in the other order. Each gets its own answer once.
 const CALLS: &[Step] = &[
     Step::Asks("Echo", b"1"),
     Step::Asks("Echo", b"2"),
@@ -127,7 +127,7 @@ const STRAY: &[u8] = b"\0\0\0\x01\0\0\0\x03\x03\0\x7a";
 const NOT_ACTIVE: &[u8] =
     b"\0\0\0\x20\0\0\0\x03\x02\0\x0a\x1e\x08\x03\x12\x1aStream is no longer active";
 
-/// A server that refuses what belongs to no stream.
+/// A server that refuses an item without a stream.
 const SERVER_REFUSES: &[Step] = &[
     Step::Strays(STRAY),
     Step::Takes(false),
@@ -144,7 +144,7 @@ const STEPS: &[(&str, &[Step])] = &[
     ("calls", CALLS),
 ];
 
-/// Does these steps, and fails at the first that came to something else.
+/// Does these steps, and fails at the first with another result than expected.
 fn take_all(alloc: Global, name: &'static str, steps: &[Step]) -> Result<(), Fail> {
     let mut bench = Bench::new(alloc)?;
     for (number, step) in steps.iter().enumerate() {
@@ -153,6 +153,7 @@ fn take_all(alloc: Global, name: &'static str, steps: &[Step]) -> Result<(), Fai
     Ok(())
 }
 
+// Seen to fail if a receipt loses an item when it is stepped.
 #[test]
 fn steps_come_to_what_they_state(rt: HostRuntime) -> Result<(), Fail> {
     for (name, steps) in STEPS {

@@ -1,4 +1,4 @@
-//! A client and a server whose cores threads share.
+//! A client and a server with cores that threads share.
 use std::alloc::Global;
 use std::sync::{Arc, Wait};
 use std::test::Fail;
@@ -19,25 +19,25 @@ pub type Client = Arc<ClientShared<Plain, Plain>, Global>;
 
 pub type Server = Arc<ServerShared<Plain, Plain>, Global>;
 
-/// A client without calls.
-pub fn client(alloc: Global) -> Result<Client, Fail> {
-    let core = ClientCore::new(alloc, ClientKind::Sync, plain_context(alloc));
+/// Returns a client without calls.
+pub fn client(alloc: Global) -> Result<Client, Error> {
+    let core = ClientCore::new(alloc, ClientKind::Sync, plain_context(alloc))?;
     Ok(Arc::new(alloc, ClientShared::new(core))?)
 }
 
-/// A server of `demo.Echo`, at which any number of jobs may wait.
+/// Returns a server of `demo.Echo` without limits on waiting jobs.
 pub fn server(alloc: Global) -> Result<Server, Fail> {
     limited_server(alloc, None, None)
 }
 
-/// The same, at which so many jobs and bytes may wait.
+/// Returns the same, with these limits on waiting jobs and bytes.
 pub fn limited_server(
     alloc: Global,
     max_jobs: Option<u64>,
     max_bytes: Option<u64>,
 ) -> Result<Server, Fail> {
     let registry = registry(alloc)?;
-    let core = ServerCore::new(alloc, Rules::Sync, registry, plain_context(alloc));
+    let core = ServerCore::new(alloc, Rules::Sync, registry, plain_context(alloc))?;
     let pool = PoolCore::new(1, 0, 1);
     let backlog = Backlog::new(max_jobs, max_bytes);
     Ok(Arc::new(alloc, ServerShared::new(core, pool, backlog))?)
@@ -48,7 +48,7 @@ pub fn call(rt: &impl Wait, alloc: Global, client: &Client) -> Result<CallId, Fa
     limited_call(rt, alloc, client, 0)
 }
 
-/// The same, with so many nanoseconds to be answered in; 0 is no limit.
+/// Does the same with a timeout in nanoseconds. 0 is no timeout.
 pub fn limited_call(
     rt: &impl Wait,
     alloc: Global,
@@ -60,14 +60,14 @@ pub fn limited_call(
     Ok(held.core.request(alloc, &request, 0)?)
 }
 
-/// A client that has called so, once.
+/// Returns a client that has made one such call.
 pub fn calling_client(rt: &impl Wait, alloc: Global) -> Result<Client, Fail> {
     let client = client(alloc)?;
     call(rt, alloc, &client)?;
     Ok(client)
 }
 
-/// The request of such a call.
+/// Returns the request of such a call.
 pub fn request(alloc: Global, timeout_nano: i64) -> Result<Request, Fail> {
     let mut request = Request::new(alloc);
     request.service = Text::from_str(alloc, "demo.Echo")?;
@@ -77,7 +77,7 @@ pub fn request(alloc: Global, timeout_nano: i64) -> Result<Request, Fail> {
     Ok(request)
 }
 
-/// A response with an OK status and the payload 2a.
+/// Returns a response with an OK status and the payload 2a.
 pub fn echo(alloc: Global) -> Result<Response, Error> {
     Ok(Response {
         status: Some(Status::new(alloc)),
@@ -85,7 +85,7 @@ pub fn echo(alloc: Global) -> Result<Response, Error> {
     })
 }
 
-/// Whether the outcome of the call is that response.
+/// Returns whether the outcome of the call is that response.
 pub fn has_outcome(rt: &impl Wait, alloc: Global, client: &Client, id: CallId) -> bool {
     match client.held().lock(rt).core.take_outcome(alloc, id) {
         Some(Ok(response)) => response.payload.as_slice() == b"\x2a".as_slice(),
@@ -93,17 +93,17 @@ pub fn has_outcome(rt: &impl Wait, alloc: Global, client: &Client, id: CallId) -
     }
 }
 
-/// How the client's connection failed.
+/// Returns the failure of the client's connection.
 pub fn client_failure(rt: &impl Wait, alloc: Global, client: &Client) -> Option<Error> {
     client.held().lock(rt).core.failure(alloc)
 }
 
-/// How the server's connection failed.
+/// Returns the failure of the server's connection.
 pub fn server_failure(rt: &impl Wait, alloc: Global, server: &Server) -> Option<Error> {
     server.held().lock(rt).core.failure(alloc)
 }
 
-/// Whether this is a socket's error of this text.
+/// Returns whether this is a socket's error with this text.
 pub fn is_socket(failure: &Option<Error>, text: &str) -> bool {
     match failure {
         Some(Error::Socket(told)) => told.as_str() == text,
@@ -111,7 +111,7 @@ pub fn is_socket(failure: &Option<Error>, text: &str) -> bool {
     }
 }
 
-/// What a thread writes that took the turn.
+/// Returns the bytes that a thread writes after it took the turn.
 pub fn written<X: Wait, S: Connected>(rt: &X, alloc: Global, shared: &S) -> Vec<u8> {
     let mut bytes = Vec::new(alloc);
     let mut port = WriteEnd::leaving(rt, shared);

@@ -1,5 +1,6 @@
 mod client_tests;
 mod ends;
+mod failing_tests;
 mod server_tests;
 mod thread_tests;
 mod turn_tests;

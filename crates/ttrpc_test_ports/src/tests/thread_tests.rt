@@ -17,7 +17,7 @@ fn a_while() -> Duration {
     Duration::from_millis(20)
 }
 
-/// The id of the job for which a worker waits.
+/// Waits for a job as a worker, and returns its id.
 fn waited_for<X: Wait + Drop>(rt: &X, alloc: Global, shared: &Server) -> Option<JobId> {
     let mut port = ServerJobs::new(rt, alloc, &**shared);
     JobPort::<Echo<X>>::begin(&mut port);
@@ -27,7 +27,7 @@ fn waited_for<X: Wait + Drop>(rt: &X, alloc: Global, shared: &Server) -> Option<
     }
 }
 
-/// The server takes these bytes, after a while.
+/// Feeds these bytes to the server, after a while.
 fn fed<X: Wait + Clock>(rt: &X, alloc: Global, shared: &Server, bytes: &[u8]) -> Option<usize> {
     thread::sleep(rt, a_while());
     let mut port = ServerRead::new(rt, alloc, &**shared);
@@ -38,7 +38,7 @@ fn fed<X: Wait + Clock>(rt: &X, alloc: Global, shared: &Server, bytes: &[u8]) ->
     port.take(bytes)
 }
 
-/// Makes as many calls as let the thread rest that does nothing but read, each alone, and ends them.
+/// Makes calls, each alone, and ends them, so that the thread that only reads comes to rest.
 fn make_lone_calls(rt: &impl Wait, shared: &Client) {
     let mut held = shared.held().lock(rt);
     for id in 0..CALLS_TO_REST {
@@ -53,7 +53,7 @@ fn make_lone_calls(rt: &impl Wait, shared: &Client) {
     }
 }
 
-/// A call with a deadline begins, after a while.
+/// Begins a call with a deadline, after a while.
 fn call_later<X: Wait + Clock>(rt: &X, shared: &Client) -> bool {
     thread::sleep(rt, a_while());
     let mut held = shared.held().lock(rt);
@@ -69,13 +69,14 @@ fn call_later<X: Wait + Clock>(rt: &X, shared: &Client) -> bool {
     wakes && !is_alone
 }
 
-/// Nobody calls any more, after a while.
+/// Abandons the client, after a while.
 fn abandon_later<X: Wait + Clock>(rt: &X, shared: &Client) {
     thread::sleep(rt, a_while());
     shared.abandon();
 }
 
-/// The thread that rests is woken by a call whose caller doesn't read.
+/// The thread that rests is woken by a call with a caller that doesn't read.
+// Should fail if the reader thread never reads.
 #[test]
 fn a_call_wakes_the_reader(rt: HostRuntime) -> Tested {
     let shared = client(rt.alloc())?;
@@ -90,7 +91,8 @@ fn a_call_wakes_the_reader(rt: HostRuntime) -> Tested {
     Ok(())
 }
 
-/// The thread that rests ends once no client is left.
+/// The thread that rests ends after the last client is gone.
+// Should fail if the reader thread reads without the turn.
 #[test]
 fn the_reader_ends_with_its_client(rt: HostRuntime) -> Tested {
     let shared = client(rt.alloc())?;
@@ -106,7 +108,7 @@ fn the_reader_ends_with_its_client(rt: HostRuntime) -> Tested {
     Ok(())
 }
 
-/// A server at which one job may wait and two do, and whose first reader has the turn.
+/// Returns a server with room for one waiting job and with two of them. Its first reader has the turn.
 fn full_server(rt: &impl Wait, alloc: Global) -> Result<Server, Fail> {
     let shared = limited_server(alloc, Some(1), None)?;
     shared.held().lock(rt).relay.wants(0, None);
@@ -118,18 +120,19 @@ fn full_server(rt: &impl Wait, alloc: Global) -> Result<Server, Fail> {
     Ok(shared)
 }
 
-/// Waits to read on. Returns whether then a job has begun, so that the other one may wait.
+/// Waits to read on. Returns whether a job has begun then, so that the other one may wait.
 fn reads_behind_a_job<X: Wait + Clock>(rt: &X, shared: &Server) -> bool {
     shared.wait_to_read(rt, 0) && shared.held().lock(rt).core.jobs_waiting() == 1
 }
 
-/// A worker takes a job, after a while.
+/// Takes a job as a worker, after a while.
 fn take_later<X: Wait + Clock + Drop>(rt: &X, alloc: Global, shared: &Server) -> Option<JobId> {
     thread::sleep(rt, a_while());
     waited_for(rt, alloc, shared)
 }
 
-/// A reader that waits since too much does is woken once less waits.
+/// A reader that waits because too much waits is woken when less waits.
+// Seen to fail if a reader reads on whatever waits; a reader isn't woken once fewer bytes wait.
 #[test]
 fn a_job_that_begins_lets_a_reader_read_on(rt: HostRuntime) -> Tested {
     let shared = full_server(&rt, rt.alloc())?;

@@ -1,13 +1,12 @@
-//! Turns, and what a writer's port does that has none.
-use crate::tests::ends::{Tested, calling_client, client_failure};
+//! Turns, and the port of a writer that has no turn.
+use crate::tests::ends::{Tested, calling_client, client_failure, is_socket};
 use std::io::{self, ErrorKind};
-use ttrpc_proto::Error;
 use ttrpc_sync::{Connected, Next, Turn, WritePort};
 use ttrpc_sync_client::{ClientWrite, Manner, Onward, ReadTurn};
 use ttrpc_test_cores::server::ASKED;
 use ttrpc_wire::values::slices::{behind, front};
 
-/// Returns whether a new turn goes from one thread to another, and who sleeps is woken once.
+/// Returns whether a new turn goes from one thread to another, and the sleeping thread is woken once.
 fn is_taken_by_one(turn: &mut Turn) -> bool {
     !turn.wakes()
         && turn.take()
@@ -21,7 +20,7 @@ fn is_taken_by_one(turn: &mut Turn) -> bool {
         && turn.next(false, false, true) == Next::Writes
 }
 
-/// One thread at a time has the turn, and who sleeps is woken once.
+/// One thread at a time has the turn, and the sleeping thread is woken once.
 #[test]
 fn one_thread_has_the_turn(rt: HostRuntime) -> Tested {
     assert!(rt; is_taken_by_one(&mut Turn::new()));
@@ -42,7 +41,7 @@ fn wakes_as_it_is_left(turn: &mut Turn) -> bool {
         && !turn.is_taken
 }
 
-/// Who gives the turn back wakes the thread that sleeps, once, and only where bytes wait.
+/// A thread that gives the turn back wakes the sleeping thread, once, and only if bytes wait.
 #[test]
 fn who_leaves_wakes_the_writer(rt: HostRuntime) -> Tested {
     assert!(rt; wakes_as_it_is_left(&mut Turn::new()));
@@ -56,7 +55,7 @@ const SHORT: Manner = Manner {
     is_short: true,
 };
 
-/// One that may expire, and one that is long.
+/// A call that may expire, and a long one.
 const LIMITED: Manner = Manner {
     has_deadline: true,
     ..SHORT
@@ -67,7 +66,7 @@ const LONG: Manner = Manner {
     ..SHORT
 };
 
-/// One before whose frame others wait.
+/// A call with other frames before its own.
 const BEHIND: Manner = Manner {
     is_next: false,
     ..SHORT
@@ -79,14 +78,14 @@ fn end(turn: &mut ReadTurn, call: u32, is_answered: bool) {
     turn.finished(call, is_answered);
 }
 
-/// Returns whether one call isn't alone, which is then answered.
+/// Begins a call that is then answered. Returns whether it isn't alone.
 fn is_not_alone(turn: &mut ReadTurn, call: u32, manner: Manner) -> bool {
     let is_alone = turn.begins(call, manner);
     end(turn, call, true);
     !is_alone
 }
 
-/// Returns whether one caller takes the turn, alone, and neither another nor the thread takes it beside.
+/// Returns whether one caller takes the turn, alone, and neither another caller nor the thread takes it meanwhile.
 fn is_read_by_one(turn: &mut ReadTurn) -> bool {
     !turn.wakes()
         && turn.begins(1, SHORT)
@@ -110,7 +109,7 @@ fn is_handed_over(turn: &mut ReadTurn) -> bool {
     hands_over && takes && reads
 }
 
-/// One thread at a time reads. Callers that are alone read for themselves; for the others the thread is woken once.
+/// One thread at a time reads. Callers that are alone read for themselves. For the others the thread is woken once.
 #[test]
 fn one_thread_reads(rt: HostRuntime) -> Tested {
     let mut turn = ReadTurn::new();
@@ -118,7 +117,7 @@ fn one_thread_reads(rt: HostRuntime) -> Tested {
     Ok(())
 }
 
-/// Returns whether the thread reads on before a call and while it is under way. The call is answered.
+/// Returns whether the thread reads on before a call and while it is running. The call is answered.
 fn is_read_beside(turn: &mut ReadTurn, call: u32) -> bool {
     let reads = turn.onward() == Onward::Reads
         && turn.begins(call, SHORT)
@@ -137,7 +136,7 @@ fn rests(turn: &mut ReadTurn) -> bool {
     leaves && turn.onward() == Onward::Leaves
 }
 
-/// The thread rests behind eight calls in a row that were alone, and not before the last one has ended.
+/// The thread rests after eight calls in a row that were alone, and not before the last one has ended.
 #[test]
 fn the_reader_rests_behind_lone_calls(rt: HostRuntime) -> Tested {
     let mut turn = ReadTurn::new();
@@ -156,8 +155,8 @@ fn is_alone_once_answered(turn: &mut ReadTurn) -> bool {
     after_a_long_one && is_not_alone(turn, 5, SHORT) && turn.begins(7, SHORT)
 }
 
-/// A long call isn't alone, and neither is one behind a call that the peer hasn't answered: it may not have read that. Its
-/// caller still writes it, unless it has a limit, or something waits before it.
+/// A long call isn't alone, and neither is a call after one that the peer hasn't answered: the peer may not have read
+/// that one. The caller still writes its request, unless it has a timeout, or other frames wait before it.
 #[test]
 fn a_call_that_may_wait_is_not_alone(rt: HostRuntime) -> Tested {
     assert!(rt; LONG.may_write() && !LIMITED.may_write() && !BEHIND.may_write());
@@ -165,7 +164,9 @@ fn a_call_that_may_wait_is_not_alone(rt: HostRuntime) -> Tested {
     Ok(())
 }
 
-/// Without the turn nothing is lent. With it a report is made by the next loan. Each assertion gives what the next call asks.
+/// Without the turn nothing is lent. With it a report is made at the next loan. Each assertion has the result that the
+/// next call needs.
+// Should fail if a writer's port reports nothing.
 #[test]
 fn a_writer_waits_for_its_turn(rt: HostRuntime) -> Tested {
     let shared = calling_client(&rt, rt.alloc())?;
@@ -182,7 +183,7 @@ fn a_writer_waits_for_its_turn(rt: HostRuntime) -> Tested {
     Ok(())
 }
 
-/// A writer that broke fails the connection by its kind, and then a port wants no more.
+/// A writer that broke fails the connection, and then a port wants no more.
 #[test]
 fn a_broken_writer_fails_the_client(rt: HostRuntime) -> Tested {
     let shared = calling_client(&rt, rt.alloc())?;
@@ -190,7 +191,7 @@ fn a_broken_writer_fails_the_client(rt: HostRuntime) -> Tested {
     port.begin();
     port.broke(io::Error::from(ErrorKind::BrokenPipe));
     let failure = client_failure(&rt, rt.alloc(), &shared);
-    let is_told = matches!(failure, Some(Error::Nix(ErrorKind::BrokenPipe)));
+    let is_told = is_socket(&failure, "broken pipe");
     port.begin();
     let mut buffer = [0; 64];
     assert!(rt; is_told && port.lend(&mut buffer) == 0 && !port.more());

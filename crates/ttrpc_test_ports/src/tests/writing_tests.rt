@@ -1,4 +1,5 @@
-//! What writers do while others queue: a frame of one's own leaves, and no more, and what is ready leaves in time.
+//! Writers while other threads queue frames: a caller writes its own frame and no more, and frames that are ready leave
+//! in time.
 use crate::tests::ends::{Client, Server, Tested, call, client, request, server};
 use crate::tests::server_tests::feed;
 use std::alloc::Global;
@@ -11,7 +12,7 @@ use ttrpc_proto::Request;
 use ttrpc_sync::{Connected, Gather, Held, Next, WriteEnd, write_loop};
 use ttrpc_test_cores::server::{ASKED, NO_METHOD};
 
-/// Keeps what it takes. Before it takes anything another caller queues a request.
+/// A writer that keeps the bytes that it takes. Before it takes any, another caller queues a request.
 #[derive(Drop)]
 struct Crowded<'a, X: Wait> {
     rt: &'a X,
@@ -22,7 +23,7 @@ struct Crowded<'a, X: Wait> {
 }
 
 impl<X: Wait> Crowded<'_, X> {
-    // Another caller queues a request.
+    // Queues a request as another caller.
     fn is_joined(&self) -> bool {
         let mut held = self.client.held().lock(self.rt);
         held.core.request(self.alloc, self.request, 0).is_ok()
@@ -53,7 +54,7 @@ fn takes_the_turn<X: Wait>(rt: &X, alloc: Global, client: &Client) -> Result<boo
     Ok(next == Next::Sleeps && took)
 }
 
-/// What who has the turn writes, while another caller queues a request.
+/// Returns the bytes that the thread with the turn writes, while another caller queues a request.
 fn written_beside<X: Wait>(rt: &X, alloc: Global, client: &Client) -> Result<Vec<u8>, Fail> {
     let request = request(alloc, 0)?;
     let mut crowded = Crowded {
@@ -74,7 +75,9 @@ fn is_left_to_the_writer<X: Wait>(rt: &X, client: &Client) -> bool {
     held.core.lendable() == 30 && !held.turn.is_taken && !held.turn.sleeps
 }
 
-/// Who writes for himself leaves behind his own frame, and has the writer thread write what others queued meanwhile.
+/// A caller that writes itself stops after its own frame, and leaves the frames that others queued meanwhile to the
+/// writer thread.
+// Seen to fail if a caller that writes its own frame writes on while others queue.
 #[test]
 fn a_caller_writes_its_own_frame_alone(rt: HostRuntime) -> Tested {
     let shared = client(rt.alloc())?;
@@ -84,7 +87,7 @@ fn a_caller_writes_its_own_frame_alone(rt: HostRuntime) -> Tested {
     Ok(())
 }
 
-/// Takes all bytes, each time after a while.
+/// A writer that takes all bytes, each time after a while.
 #[derive(Drop)]
 struct Slow<'a, X> {
     clock: &'a X,
@@ -101,7 +104,7 @@ impl<X: Clock> Write for Slow<'_, X> {
     }
 }
 
-/// Writes what a writer without the turn gets to write, until the connection has failed, and says how much that was.
+/// Writes as a writer without the turn, until the connection has failed. Returns the number of bytes that it wrote.
 fn writes_beside<X: Wait>(rt: &X, alloc: Global, client: &Client) -> usize {
     let mut bytes = Vec::new(alloc);
     let mut port = WriteEnd::staying(rt, &**client);
@@ -109,7 +112,7 @@ fn writes_beside<X: Wait>(rt: &X, alloc: Global, client: &Client) -> usize {
     bytes.len()
 }
 
-/// Writes a frame slowly, and says how much is left then. It ends the connection.
+/// Writes a frame slowly, ends the connection, and returns the number of bytes that were left.
 fn writes_slowly<X: Wait + Clock>(rt: &X, client: &Client) -> usize {
     let mut port = WriteEnd::leaving(rt, &**client);
     write_loop(rt, &mut Slow { clock: rt }, &mut port);
@@ -118,7 +121,8 @@ fn writes_slowly<X: Wait + Clock>(rt: &X, client: &Client) -> usize {
     left
 }
 
-/// A writer that waits for its turn doesn't touch what another has on loan: no byte is written twice.
+/// A writer that waits for its turn doesn't touch the bytes that another one has on loan: no byte is written twice.
+// Seen to fail if a writer that waits for its turn reports for the thread that has the turn, so that bytes leave twice.
 #[test]
 fn a_writer_without_the_turn_reports_nothing(rt: HostRuntime) -> Tested {
     let waiting = client(rt.alloc())?;
@@ -134,7 +138,8 @@ fn a_writer_without_the_turn_reports_nothing(rt: HostRuntime) -> Tested {
     Ok(())
 }
 
-/// Takes so many bytes, counts its calls, and then breaks. It keeps the length of the first part that it took.
+/// A writer that takes `room` bytes, counts its calls, and then breaks. It keeps the length of the first part that it
+/// took.
 #[derive(Drop)]
 struct Counting {
     room: usize,
@@ -161,14 +166,15 @@ impl Write for Counting {
     }
 }
 
-/// So many requests, which the core answers itself, each with 46 bytes.
+/// Feeds `count` requests that the core answers itself, each with 46 bytes.
 fn ask_often<X: Wait>(rt: &X, alloc: Global, server: &Server, count: usize) {
     for _ in 0..count {
         let _ = feed(rt, alloc, server, NO_METHOD);
     }
 }
 
-/// Where a thousand answers wait, batches leave behind 64 loans of one answer each, and not all at the end.
+/// If a thousand answers wait, they leave in batches, each after 64 loans of one answer, and not all at the end.
+// Seen to fail if ready answers leave only if no job waits.
 #[test]
 fn ready_answers_leave_in_batches(rt: HostRuntime) -> Tested {
     let shared = server(rt.alloc())?;

@@ -1,4 +1,4 @@
-//! What a server says to a client that speaks line by line. Frames are written by hand.
+//! The frames of a server to a client that sends line by line. The frames are written by hand.
 use crate::tests::gate::Gate;
 use crate::tests::runs::{Bench, System, make_bench, run_beside, run_lines, speaker};
 use crate::tests::sites::Behind;
@@ -17,13 +17,13 @@ const ASKED: &[u8] = b"\0\0\0\x14\0\0\0\x01\x01\0\x0a\x09demo.Echo\x12\x04Echo\x
 
 const ECHOED: &[u8] = b"\0\0\0\x05\0\0\0\x01\x02\0\x0a\0\x12\x01\x2a";
 
-/// A request under an even id, and its answer.
+/// A request with an even id, and its answer.
 const EVEN: &[u8] = b"\0\0\0\x06\0\0\0\x02\x01\0\x0a\x01x\x12\x01y";
 
 const ANSWER_TO_EVEN: &[u8] = b"\
     \0\0\0\x1b\0\0\0\x02\x02\0\x0a\x19\x08\x03\x12\x15stream id must be odd";
 
-/// A request for a method that isn't there, and its answer.
+/// A request for an unknown method, and its answer.
 const NO_METHOD: &[u8] = b"\0\0\0\x11\0\0\0\x01\x01\0\x0a\x09demo.Echo\x12\x04Nope";
 
 const ANSWER_TO_NO_METHOD: &[u8] = b"\0\0\0\x11\0\0\0\x01\x02\0\x0a\x0f\x08\x0c\x12\x0bNope method";
@@ -35,19 +35,19 @@ const TWICE: &[u8] = b"\
 
 const IN_USE: &[u8] = b"\0\0\0\x1b\0\0\0\x01\x02\0\x0a\x19\x08\x03\x12\x15stream id 1 is in use";
 
-/// Data under an id without a stream, and its answer.
+/// Data with the id of no stream, and its answer.
 const DATA: &[u8] = b"\0\0\0\x01\0\0\0\x03\x03\0\x7a";
 
 const ANSWER_TO_DATA: &[u8] = b"\
     \0\0\0\x20\0\0\0\x03\x02\0\x0a\x1e\x08\x03\x12\x1aStream is no longer active";
 
-/// A request of a handler that never ends, with a limit of 20 ms, and its answer.
+/// A request of a handler that never ends, with a timeout of 20 ms, and its answer.
 const LIMITED: &[u8] = b"\
     \0\0\0\x1b\0\0\0\x01\x01\0\x0a\x09demo.Echo\x12\x09NeverEnds\x20\x80\xda\xc4\x09";
 
 const EXPIRED: &[u8] = b"\0\0\0\x0d\0\0\0\x01\x02\0\x0a\x0b\x08\x04\x12\x07timeout";
 
-/// A stream that the client closes, with what it sends, and what comes back.
+/// A stream that the client closes, with its items, and the frames that come back.
 const STREAM: &[u8] = b"\
     \0\0\0\x11\0\0\0\x01\x01\x06\x0a\x09demo.Echo\x12\x04Chat\
     \0\0\0\x01\0\0\0\x01\x03\0a\
@@ -61,7 +61,7 @@ const STREAM_BACK: &[u8] = b"\
     \0\0\0\x01\0\0\0\x01\x03\0b\
     \0\0\0\0\0\0\0\x01\x03\x05";
 
-/// A stream, and items of it: `a`, an empty one, and `b`; and its close.
+/// A stream, and three items of it: `a`, an empty one, and `b`; and its close.
 const OPENS: &[u8] = b"\0\0\0\x11\0\0\0\x01\x01\x06\x0a\x09demo.Echo\x12\x04Chat";
 
 const ITEMS: &[u8] = b"\
@@ -71,7 +71,7 @@ const ITEMS: &[u8] = b"\
 
 const CLOSES: &[u8] = b"\0\0\0\0\0\0\0\x01\x03\x05";
 
-/// Returns the frames of this number, from 0, with what answers them.
+/// Returns the frames with this number, from 0, with their answer.
 fn row(number: u8) -> Option<(&'static [u8], &'static [u8])> {
     Some(match number {
         0 => (ASKED, ECHOED),
@@ -99,11 +99,12 @@ fn frames_have_their_answers(rt: HostRuntime) -> Result<(), Fail> {
     Ok(())
 }
 
-/// Frames in one write, and an answer behind the end of the input; a stream that waits in vain has none.
+/// Frames in one write, and their answers after the end of the input. A stream that waits in vain has no answer.
 const AT_ONCE: &[Line<'static>] = &[Up(TWICE), UpEnds, Down(IN_USE), Down(ECHOED), DownEnds];
 
 const IN_VAIN: &[Line<'static>] = &[Up(OPENS), UpEnds, DownEnds];
 
+// Should fail if the end of input is reported to the core while handlers run.
 #[test]
 fn answers_come_behind_the_end_of_input(rt: HostRuntime) -> Result<(), Fail> {
     let gate = Arc::new(rt.alloc(), Gate::new(rt.alloc()))?;
@@ -112,7 +113,7 @@ fn answers_come_behind_the_end_of_input(rt: HostRuntime) -> Result<(), Fail> {
     check_named("a line comes otherwise", is_so)
 }
 
-/// A handler that waits, one that lets it go on, and two calls behind them, in one write.
+/// A call with a handler that waits, one with a handler that lets it go on, and two calls after them, in one write.
 const WAITS_AND_OPENS: &[u8] = b"\
     \0\0\0\x15\0\0\0\x01\x01\0\x0a\x09demo.Echo\x12\x05Waits\x1a\x01\x31\
     \0\0\0\x15\0\0\0\x03\x01\0\x0a\x09demo.Echo\x12\x05Opens\x1a\x01\x32";
@@ -121,7 +122,7 @@ const CALLS_BEHIND: &[u8] = b"\
     \0\0\0\x14\0\0\0\x05\x01\0\x0a\x09demo.Echo\x12\x04Echo\x1a\x01\x33\
     \0\0\0\x14\0\0\0\x07\x01\0\x0a\x09demo.Echo\x12\x04Echo\x1a\x01\x34";
 
-/// The answers: that of the handler that was woken comes before those of the calls.
+/// The answers: that of the handler that was woken comes before those of the later calls.
 const WOKEN_FIRST: &[u8] = b"\
     \0\0\0\x05\0\0\0\x03\x02\0\x0a\0\x12\x01\x32\
     \0\0\0\x05\0\0\0\x01\x02\0\x0a\0\x12\x01\x31";
@@ -139,6 +140,7 @@ const WAKES: &[Line<'static>] = &[
     DownEnds,
 ];
 
+// Seen to fail if calls that wait go before a handler that was woken.
 #[test]
 fn a_woken_handler_goes_before_calls_that_wait(rt: HostRuntime) -> Result<(), Fail> {
     let gate = Arc::new(rt.alloc(), Gate::new(rt.alloc()))?;
@@ -146,13 +148,14 @@ fn a_woken_handler_goes_before_calls_that_wait(rt: HostRuntime) -> Result<(), Fa
     check_named("a line comes otherwise", fault.is_none())
 }
 
-/// Fails unless this conversation goes as stated.
+/// Fails unless this conversation goes as expected.
 fn hold<R: System>(rt: &R, gate: &Arc<Gate, Global>, bare: bool, said: Said) -> Result<(), Fail> {
     let (name, lines) = said;
     let fault = run_lines(rt, gate, 4096, bare, lines)?;
     check_named(name, fault.is_none())
 }
 
+// Seen to fail if a receiver of a stream isn't woken when something comes.
 #[test]
 fn recorded_clients_are_answered(rt: HostRuntime) -> Result<(), Fail> {
     let gate = Arc::new(rt.alloc(), Gate::new(rt.alloc()))?;
@@ -171,7 +174,7 @@ fn recorded_clients_are_answered(rt: HostRuntime) -> Result<(), Fail> {
     Ok(())
 }
 
-/// Adds the frame with the id of this number, and with this byte in place of the last if one is given.
+/// Adds the frame with the id of this number. If a byte is given, it replaces the last byte.
 fn put(frames: &mut Vec<u8>, frame: &[u8], number: u32, last: Option<u8>) -> Result<(), Fail> {
     let id = number.saturating_mul(2).saturating_add(1).to_be_bytes();
     let [a, b, c, d, _, _, _, _, rest @ ..] = frame else {
@@ -198,7 +201,7 @@ fn all_calls_are_answered_behind_the_end_of_input(rt: HostRuntime) -> Result<(),
     check_named("a line comes otherwise", fault.is_none())
 }
 
-/// Says these frames to a server, which answers so after the end of the input.
+/// Sends these frames to a server, which answers with `echoed` after the end of the input.
 fn answer_behind<'a, R: System>(
     rt: &R,
     gate: &Arc<Gate, Global>,
@@ -212,10 +215,10 @@ fn answer_behind<'a, R: System>(
 /// A client that goes away in the middle of a stream, while the handler waits for an item.
 const LEAVES: &[Line<'static>] = &[Up(OPENS), Up(ITEMS), Down(ITEMS), UpEnds, DownEnds];
 
-/// A client that goes away without having read.
+/// A client that goes away without reading.
 const LEAVES_UNREAD: &[Line<'static>] = &[Up(OPENS), Up(ITEMS), Up(ITEMS)];
 
-/// Returns whether these lines go as stated, and nothing of a handler stays behind them.
+/// Returns whether these lines go as expected, and no handler is left after them.
 fn leaves_nothing<R: System>(
     rt: &R,
     gate: &Arc<Gate, Global>,
@@ -225,6 +228,7 @@ fn leaves_nothing<R: System>(
     Ok(run_lines(rt, gate, room, false, lines)?.is_none() && Arc::strong_count(gate) == 1)
 }
 
+// Should fail if the end of input is never reported to the core.
 #[test]
 fn a_handler_is_told_that_its_client_went_away(rt: HostRuntime) -> Result<(), Fail> {
     let gate = Arc::new(rt.alloc(), Gate::new(rt.alloc()))?;
@@ -235,7 +239,7 @@ fn a_handler_is_told_that_its_client_went_away(rt: HostRuntime) -> Result<(), Fa
     check_named("a handler stays, or isn't told", is_told && is_told_unread)
 }
 
-/// A request of a handler that never ends, without a limit, and one that is answered behind it.
+/// A request of a handler that never ends, without a timeout, and one that is answered after it.
 const UNLIMITED: &[u8] = b"\0\0\0\x16\0\0\0\x01\x01\0\x0a\x09demo.Echo\x12\x09NeverEnds";
 
 const ASKED_BEHIND: &[u8] = b"\0\0\0\x14\0\0\0\x03\x01\0\x0a\x09demo.Echo\x12\x04Echo\x1a\x01\x2a";
@@ -246,7 +250,7 @@ const IS_OVER: &[Line<'static>] = &[Up(LIMITED), Down(EXPIRED)];
 
 const GOES_ON: &[Line<'static>] = &[Up(UNLIMITED), Up(ASKED_BEHIND), Down(ECHOED_BEHIND)];
 
-/// Whether a gate has so many users.
+/// Checks that a gate has this number of users. It is ready at its first poll.
 #[derive(Drop)]
 struct Users {
     gate: Arc<Gate, Global>,
@@ -265,7 +269,7 @@ impl Future for Users {
     }
 }
 
-/// Says a client's part of these lines. Behind them, while the connection lasts, so many handlers are there.
+/// Sends a client's part of these lines. After them, while the connection lives, there must be this number of handlers.
 fn count_handlers<R: System>(
     rt: &R,
     handlers: usize,
@@ -286,6 +290,7 @@ fn count_handlers<R: System>(
     run_beside(rt, &mut runtime, &mut server, far, both)
 }
 
+// Should fail if a handler stays after its time is over.
 #[test]
 fn a_handler_whose_time_is_over_is_dropped(rt: HostRuntime) -> Result<(), Fail> {
     let is_so = count_handlers(&rt, 1, GOES_ON)?.is_none()
@@ -293,7 +298,7 @@ fn a_handler_whose_time_is_over_is_dropped(rt: HostRuntime) -> Result<(), Fail> 
     check_named("other handlers are there", is_so)
 }
 
-/// A stream, and what answers it: that 250 items came, all of them in order.
+/// A stream, and its answer: 250 items came, all of them in order.
 const ORDERS: &[u8] = b"\0\0\0\x12\0\0\0\x01\x01\x06\x0a\x09demo.Echo\x12\x05Order";
 
 const ITEM: &[u8] = b"\0\0\0\x01\0\0\0\x01\x03\0a";
@@ -301,7 +306,7 @@ const ITEM: &[u8] = b"\0\0\0\x01\0\0\0\x01\x03\0a";
 const ALL_IN_ORDER: &[u8] = b"\
     \0\0\0\x14\0\0\0\x01\x02\0\x0a\0\x12\x10\0\0\0\0\0\0\0\xfa\0\0\0\0\0\0\0\xfa";
 
-/// Makes 250 items of the stream of this number, and its close.
+/// Returns 250 items of the stream with this number, and its close.
 fn items_of(alloc: Global, number: u32) -> Result<Vec<u8>, Fail> {
     let mut frames = Vec::new(alloc);
     put(&mut frames, ORDERS, number, None)?;
@@ -312,7 +317,7 @@ fn items_of(alloc: Global, number: u32) -> Result<Vec<u8>, Fail> {
     Ok(frames)
 }
 
-/// Returns all that 1,000 streams of this connection say, and what answers each.
+/// Returns the frames of 1,000 streams of one connection, and the answer to each.
 fn thousand_streams(alloc: Global) -> Result<(Vec<Vec<u8>>, Vec<Vec<u8>>), Fail> {
     let (mut ups, mut downs) = (Vec::new(alloc), Vec::new(alloc));
     for number in 0..1000u32 {
@@ -322,7 +327,7 @@ fn thousand_streams(alloc: Global) -> Result<(Vec<Vec<u8>>, Vec<Vec<u8>>), Fail>
     Ok((ups, downs))
 }
 
-/// Returns what answers the stream of this number.
+/// Returns the answer to the stream with this number.
 fn answer_of(alloc: Global, number: u32) -> Result<Vec<u8>, Fail> {
     let mut answer = Vec::new(alloc);
     put(&mut answer, ALL_IN_ORDER, number, None)?;

@@ -1,4 +1,4 @@
-//! What is left of a job once its handler has ended, and what handlers see of the end of their input.
+//! The parts of a job that are left after its handler has ended, and the end of the input, as handlers see it.
 ghost use Rattle.std.specs.Prelude.{⊤};
 
 use crate::tests::floods::{Behind, First, Taking};
@@ -32,13 +32,13 @@ use ttrpc_server::{Rules, ServerCore};
 /// A place for the receiver of a stream.
 type Shelf = Arc<Mutex<Option<StreamReceiver<Shared>>>, Global>;
 
-/// Streams whose handlers put their receivers there.
+/// Streams with handlers that put their receivers there.
 #[derive(Drop)]
 struct Shelving {
     shelf: Shelf,
 }
 
-/// The handler of such a stream, which ends once it was polled a few times.
+/// The handler of such a stream, which ends after it was polled a few times.
 #[derive(Drop)]
 struct ShelvingCall {
     shelf: Option<Shelf>,
@@ -87,7 +87,7 @@ impl Future for ShelvingCall {
     }
 }
 
-/// Who takes a receiver from the shelf, and receives.
+/// A future that takes a receiver from the shelf, and receives.
 #[derive(Drop)]
 struct Waits {
     alloc: Global,
@@ -128,7 +128,7 @@ fn fault_unless(holds: bool) -> Option<Fault> {
 /// A request of a stream.
 const OPENS: &[u8] = b"\0\0\0\x11\0\0\0\x01\x01\x06\x0a\x09demo.Echo\x12\x04Chat";
 
-/// Makes the service of such streams.
+/// Returns the service of such streams.
 fn make_shelving(
     alloc: Global,
     shelf: &Shelf,
@@ -145,7 +145,7 @@ fn make_shelving(
     Ok(services)
 }
 
-/// A peer that opens a stream and says no more.
+/// Returns a peer that opens a stream and sends no more.
 fn opener(alloc: Global) -> Result<(First, Taking), Fail> {
     let moment = Arc::new(alloc, AtomicU64::new(0))?;
     let reader = First::new(OPENS, Behind::Nothing, moment);
@@ -155,7 +155,7 @@ fn opener(alloc: Global) -> Result<(First, Taking), Fail> {
     Ok((reader, writer))
 }
 
-/// Waits at a receiver outside of its handler. Whether that was told so within half a second.
+/// Waits at a receiver outside of its handler. Returns whether that ended within half a second.
 fn wait_outside<R: System>(rt: &R) -> Result<bool, Fail> {
     let alloc = rt.alloc();
     let mut runtime = LocalRuntime::new(rt)?;
@@ -179,12 +179,13 @@ fn wait_outside<R: System>(rt: &R) -> Result<bool, Fail> {
     }
 }
 
+// Should fail if an ended job wakes nobody.
 #[test]
 fn who_receives_outside_a_handler_is_told_of_its_end(rt: HostRuntime) -> Result<(), Fail> {
     check_named("nobody is told", wait_outside(&rt)?)
 }
 
-/// A job that was taken, of which a task waits to be told, and then its end.
+/// A job that was taken and that a task waits for, and then its end.
 #[derive(Drop)]
 struct Waited {
     held: ServerHeld<Plain, Plain>,
@@ -205,10 +206,10 @@ impl Future for Waited {
 /// A request of `Echo`.
 const ASKED: &[u8] = b"\0\0\0\x14\0\0\0\x01\x01\0\x0a\x09demo.Echo\x12\x04Echo\x1a\x01\x2a";
 
-/// Makes what stands under a connection's lock, with a job that was taken.
+/// Returns the part of a connection under its lock, with a job that was taken.
 fn taken(alloc: Global) -> Result<ServerHeld<Plain, Plain>, Fail> {
     let context = ConnectionContext::of_halves(alloc, Plain {}, Plain {});
-    let core = ServerCore::new(alloc, Rules::Async, registry(alloc)?, context);
+    let core = ServerCore::new(alloc, Rules::Async, registry(alloc)?, context)?;
     let input_end = Arc::new(alloc, InputEnd::new(alloc))?;
     let mut held = ServerHeld::new(alloc, core, Settings::new(), input_end);
     let _ = held.take(alloc, ASKED, 0);
@@ -216,6 +217,7 @@ fn taken(alloc: Global) -> Result<ServerHeld<Plain, Plain>, Fail> {
     Ok(held)
 }
 
+// Should fail if an ended job leaves its waker.
 #[test]
 fn nothing_is_kept_of_a_job_that_has_ended(rt: HostRuntime) -> Result<(), Fail> {
     let mut runtime = LocalRuntime::new(&rt)?;
@@ -241,7 +243,7 @@ fn a_handler_sees_the_end_of_its_input(rt: HostRuntime) -> Result<(), Fail> {
     check_named("it doesn't see it", fault.is_none())
 }
 
-/// A stream whose handler sends beside what it receives, and what it sends behind the end of the input.
+/// A stream with a handler that sends while it receives, and the frames that it sends after the end of the input.
 const BEATS: &[u8] = b"\0\0\0\x12\0\0\0\x01\x01\x06\x0a\x09demo.Echo\x12\x05Beats";
 
 const BEATEN: &[u8] = b"\
@@ -252,6 +254,7 @@ const BEATEN: &[u8] = b"\
 
 const HALF_CLOSED: &[Line<'static>] = &[Up(BEATS), UpEnds, Down(BEATEN), DownEnds];
 
+// Should fail if a handler that sends is cut off at the end of input.
 #[test]
 fn a_handler_that_sends_goes_on_behind_a_half_close(rt: HostRuntime) -> Result<(), Fail> {
     let gate = Arc::new(rt.alloc(), Gate::new(rt.alloc()))?;

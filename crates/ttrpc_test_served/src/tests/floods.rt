@@ -1,4 +1,4 @@
-//! Connections whose input never runs dry, with a clock that the tests set on.
+//! Connections with endless input. The tests advance the clock.
 ghost use Rattle.std.specs.Prelude.{◌≡◌, ◌≤◌, ⊤, length, IsSome};
 ghost use Rattle.tokio.specs.Io.Moved.{count_moved};
 
@@ -17,10 +17,10 @@ use tokio::io::{AsyncRead, AsyncWrite};
 use ttrpc_polled_server::{MethodHandler, TtrpcContext};
 use ttrpc_proto::{Request, Response, Result};
 
-/// A moment that is set on.
+/// A moment that a test advances.
 pub type Moment = Arc<AtomicU64, Global>;
 
-/// A clock that a test sets on.
+/// A clock that a test advances.
 #[derive(Drop)]
 pub struct TestClock {
     pub moment: Moment,
@@ -44,7 +44,7 @@ impl Clone for TestClock {
     }
 }
 
-/// A method whose handlers take so many nanoseconds each, and which counts them.
+/// A method with handlers that take `cost` nanoseconds each. It counts them.
 #[derive(Drop)]
 pub struct Costs {
     pub moment: Moment,
@@ -67,7 +67,7 @@ impl MethodHandler for Costs {
 /// A request of `Echo` with the payload 2a.
 const ASKED: &[u8; 30] = b"\0\0\0\x14\0\0\0\x01\x01\0\x0a\x09demo.Echo\x12\x04Echo\x1a\x01\x2a";
 
-/// A reader that gives requests without an end, and counts them.
+/// A reader that gives endless requests, and counts them.
 #[derive(Drop)]
 pub struct Flood {
     pub given: Arc<Cell<u32>, Global>,
@@ -96,8 +96,8 @@ impl AsyncRead for Flood {
     }
 }
 
-/// Writes the request of this number.
-fn write_request(place: &mut [u8], number: u32) {
+/// Writes the request with this number.
+pub fn write_request(place: &mut [u8], number: u32) {
     let id = number.saturating_mul(2).saturating_add(1).to_be_bytes();
     for (to, from) in place.iter_mut().zip(ASKED.iter()) {
         *to = *from;
@@ -112,10 +112,10 @@ fn write_request(place: &mut [u8], number: u32) {
 /// A frame of a stream that is not open.
 const STRAY: &[u8; 11] = b"\0\0\0\x01\0\0\0\x07\x03\0\x7a";
 
-/// What comes behind the first bytes of a reader.
+/// The input after the first bytes of a reader.
 #[derive(Clone, Copy, Debug, PartialEq, Eq)]
 pub enum Behind {
-    /// Stray frames without an end, with a millisecond each.
+    /// Endless stray frames, with a millisecond each.
     Strays,
     /// Nothing, and no end.
     Nothing,
@@ -125,7 +125,7 @@ pub enum Behind {
     Reset,
 }
 
-/// A reader that gives these bytes, and then what is stated.
+/// A reader that gives these bytes, and then the input `behind`.
 #[derive(Drop)]
 pub struct First {
     bytes: &'static [u8],
@@ -137,7 +137,7 @@ pub struct First {
 }
 
 impl First {
-    /// Makes a reader of these bytes.
+    /// Returns a reader of these bytes.
     pub fn new(bytes: &'static [u8], behind: Behind, moment: Moment) -> First {
         First {
             bytes,
@@ -149,7 +149,7 @@ impl First {
         }
     }
 
-    /// Gives what comes after the first bytes.
+    /// Gives the input after the first bytes.
     fn give(&mut self, buf: &mut [u8]) -> io::Result<usize>
         ensures { count_moved (Poll.Ready result) ≤ length buf.new }
     {
@@ -193,7 +193,7 @@ impl AsyncRead for First {
     }
 }
 
-/// A writer that takes all, and notes how many bytes it was offered at once at most.
+/// A writer that takes all bytes, and keeps the length of the longest offer.
 #[derive(Drop)]
 pub struct Taking {
     pub most: Arc<Cell<usize>, Global>,
@@ -220,7 +220,8 @@ impl AsyncWrite for Taking {
     }
 }
 
-/// A connection that is polled so often at most, with so many nanoseconds behind each poll. Ready: whether it is over.
+/// A connection that is polled at most `left` times, with `step` nanoseconds after each poll. Ready with true if the
+/// connection has ended.
 #[derive(Drop)]
 pub struct Polled<F> {
     pub connection: F,
@@ -248,8 +249,8 @@ impl<F: Future<Output = ()>> Future for Polled<F> {
     }
 }
 
-/// A connection that is polled, and a gate of its handlers. Ready: whether it is over, and how many hold the gate, before the
-/// connection is let go.
+/// A connection that is polled, and a gate of its handlers. Ready with whether the connection has ended, and the number
+/// of users of the gate before the connection is dropped.
 #[derive(Drop)]
 pub struct Seen<F> {
     pub polled: Polled<F>,
@@ -269,7 +270,7 @@ impl<F: Future<Output = ()>> Future for Seen<F> {
     }
 }
 
-/// A connection, and its server's end, which is polled once, after so many polls.
+/// A connection, and its server's end, which is polled once, after `left` polls.
 #[derive(Drop)]
 pub struct Told<F, D> {
     pub connection: F,

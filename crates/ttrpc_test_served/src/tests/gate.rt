@@ -1,4 +1,4 @@
-//! What handlers wait at until it is opened.
+//! A gate that handlers wait at until it is opened.
 ghost use Rattle.std.specs.Prelude.{◌≡◌};
 ghost use Rattle.futures.specs.Poll.{OnPending};
 ghost use Rattle.futures.specs.Task.{IsArmed, Keeps};
@@ -9,8 +9,8 @@ use std::alloc::Global;
 use std::sync::Mutex;
 use tokio::time::Interval;
 
-/// A gate, at which one handler may wait, or at which it may look at each tick; and the text with which the last stream's handler
-/// ended.
+/// A gate. One handler may wait at it, or look at it at each tick. It also has the text that the last stream's handler
+/// ended with.
 #[derive(Drop)]
 pub struct Gate {
     source: Source,
@@ -26,7 +26,7 @@ struct GateHeld {
 }
 
 impl Gate {
-    /// Makes a gate that is closed.
+    /// Returns a gate that is closed.
     pub fn new(alloc: Global) -> Gate {
         Gate {
             source: Source::new(),
@@ -62,14 +62,14 @@ impl Gate {
         }
     }
 
-    /// Has these ticks for who looks at it.
+    /// Sets the ticks for the handler that looks at the gate.
     pub fn set_ticks(&self, ticks: Interval) {
         if let Some(mut guard) = lock(&self.held) {
             (&mut *guard).ticks = Some(ticks);
         }
     }
 
-    /// Takes its ticks, for the first who asks.
+    /// Takes the ticks. Only the first caller gets them.
     pub fn take_ticks(&self) -> Option<Interval> {
         match lock(&self.held) {
             Some(mut guard) => (&mut *guard).ticks.take(),
@@ -88,7 +88,7 @@ impl Gate {
         }
     }
 
-    /// Notes with which text a handler ended.
+    /// Keeps the text that a handler ended with.
     pub fn note(&self, told: String) {
         if let Some(mut guard) = lock(&self.held) {
             (&mut *guard).told = told;

@@ -1,4 +1,4 @@
-//! The methods of the service `demo.Echo`, as the tests have it.
+//! The methods of the tests' service `demo.Echo`.
 ghost use Rattle.futures.specs.Poll.{OnPending};
 ghost use Rattle.futures.specs.Task.{IsArmed, Keeps};
 
@@ -16,26 +16,26 @@ use ttrpc_wire::{Blob, Code, Sequence, Text};
 /// The connection of a test.
 pub type Shared = ServerShared<Plain, Plain>;
 
-/// What a method does.
+/// The behaviour of a method.
 #[derive(Clone, Copy, Debug, PartialEq, Eq)]
 pub enum Does {
-    /// It answers with the payload.
+    /// Responds with the payload.
     Answers,
-    /// It answers with what it was handed beside the payload.
+    /// Responds with the other parts of its request.
     Tells,
-    /// It fails by `Eof`.
+    /// Fails with `Eof`.
     Ends,
-    /// It fails by the status that its payload is: a code, and a message.
+    /// Fails with the status in its payload: a code, and a message.
     Fails,
-    /// It answers with the payload once the gate is open.
+    /// Responds with the payload when the gate is open.
     Waits,
-    /// It looks at each tick whether the gate is open, and then answers with the payload. Behind 10,000 looks it fails.
+    /// Looks at each tick whether the gate is open, and then responds with the payload. After 10,000 looks it fails.
     Looks,
-    /// It opens the gate, and answers with the payload.
+    /// Opens the gate, and responds with the payload.
     Opens,
-    /// It never ends.
+    /// Never ends.
     NeverEnds,
-    /// It answers with the payload once its input has ended.
+    /// Responds with the payload after its input has ended.
     AtEnd,
 }
 
@@ -88,11 +88,11 @@ impl MethodHandler for Method {
     }
 }
 
-/// How often a handler looks at most.
+/// The number of times that a handler looks at most.
 const LOOKS: u32 = 10_000;
 
 impl MethodCall {
-    /// Waits until the gate is open, and then answers with the payload.
+    /// Waits until the gate is open, and then responds with the payload.
     fn poll_waiting(&mut self, cx: &mut Context<'_>) -> Poll<Result<Response>>
         ensures registered { OnPending result (IsArmed cx.new) }
         ensures kept { Keeps cx.old cx.new }
@@ -105,7 +105,7 @@ impl MethodCall {
         Poll::Ready(Ok(answer(self.alloc, self.payload.take())))
     }
 
-    /// Ends what waits for nothing.
+    /// Ends a call that waits for nothing.
     fn end(&mut self) -> Result<Response> {
         match self.does {
             Does::Ends => Err(Error::Eof),
@@ -145,7 +145,7 @@ impl MethodCall {
         cx.yield_now()
     }
 
-    /// Waits until the input has ended, and then answers with the payload.
+    /// Waits until the input has ended, and then responds with the payload.
     fn poll_ended(&mut self, cx: &mut Context<'_>) -> Poll<Result<Response>>
         ensures registered { OnPending result (IsArmed cx.new) }
         ensures kept { Keeps cx.old cx.new }
@@ -186,14 +186,14 @@ impl Future for MethodCall {
     }
 }
 
-/// Writes the stream's id, the limit in nanoseconds, how many keys the metadata has, and the method.
+/// Returns the text of the stream's id, the timeout in nanoseconds, the number of keys in the metadata, and the method.
 fn handed(ctx: &TtrpcContext, req: &Request) -> std::result::Result<Blob, AllocError> {
     let (id, limit, keys) = (ctx.mh.stream_id, ctx.timeout_nano, ctx.metadata.len());
     let told = format!(in ctx.alloc(); "{id} {limit} {keys} {}", req.method)?;
     Blob::from_slice(ctx.alloc(), told.as_bytes())
 }
 
-/// Makes the response of an OK status with this payload.
+/// Returns the response with an OK status and this payload.
 pub fn answer(alloc: Global, payload: Option<Blob>) -> Response {
     let status = get_status(Code::OK, String::new(alloc));
     let mut response = Response::init_status(alloc, status);
@@ -203,7 +203,8 @@ pub fn answer(alloc: Global, payload: Option<Blob>) -> Response {
     response
 }
 
-/// Makes the response of the status whose code is the first byte and whose message the rest; of no bytes, that of a plain error.
+/// Returns the response with a status. Its code is the first byte of the payload, and its message is the rest. An empty
+/// payload gives that of a plain error.
 pub fn failure(alloc: Global, payload: Option<Blob>) -> Response {
     failure_of(alloc, payload).into_response(alloc)
 }

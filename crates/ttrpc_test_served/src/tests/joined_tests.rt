@@ -1,4 +1,4 @@
-//! Two calls of one client, of which the first is answered behind the second.
+//! Two calls of one client. The first is answered after the second.
 ghost use Rattle.futures.specs.Poll.{OnPending};
 ghost use Rattle.futures.specs.Task.{IsArmed, Keeps};
 
@@ -18,7 +18,7 @@ use ttrpc_polled_client::{Client, ClientRequest};
 use ttrpc_proto::{Response, Result as RpcResult};
 use ttrpc_secure::Plain;
 
-/// Two calls side by side. Once the second is answered the gate is opened.
+/// Two calls side by side. After the second is answered, the gate is opened.
 #[derive(Drop)]
 struct Joined {
     alloc: Global,
@@ -28,7 +28,8 @@ struct Joined {
 }
 
 impl Joined {
-    /// Polls the second call, and opens the gate once it is answered. Whether it goes on, or was answered as it should be.
+    /// Polls the second call, and opens the gate when it is answered. Returns whether it is pending, or was answered as
+    /// expected.
     fn poll_second(&mut self, cx: &mut Context<'_>) -> bool
         ensures kept { Keeps cx.old cx.new }
     {
@@ -50,7 +51,7 @@ impl Joined {
         }
     }
 
-    /// Polls the first call. Ready: a fault, unless it was answered as it should be, and behind the second.
+    /// Polls the first call. Ready with a fault, unless it was answered as expected, and after the second.
     fn poll_first(&mut self, cx: &mut Context<'_>) -> Poll<Option<Fault>>
         ensures registered { OnPending result (IsArmed cx.new) }
         ensures kept { Keeps cx.old cx.new }
@@ -88,13 +89,13 @@ fn has(alloc: Global, outcome: RpcResult<Response>, payload: &'static [u8]) -> b
     }
 }
 
-/// Has a gate looked at once a millisecond.
+/// Sets ticks of a millisecond for looking at a gate.
 fn set_ticks<R: System>(rt: &R, handle: &Handle, gate: &Gate) -> Result<(), Fail> {
     gate.set_ticks(handle.time().interval(rt, Duration::from_millis(1))?);
     Ok(())
 }
 
-/// Makes two calls of this client: the handler of the first looks once a millisecond whether the second was answered.
+/// Makes two calls of this client. The handler of the first looks once a millisecond whether the second was answered.
 fn make_joined<R: System>(
     alloc: Global,
     client: &Client<R, Plain, Plain>,
@@ -110,7 +111,7 @@ fn make_joined<R: System>(
     })
 }
 
-/// Makes two calls of one client at once.
+/// Makes two calls of one client at the same time.
 fn join_calls<R: System>(rt: &R) -> Result<Option<Fault>, Fail> {
     let gate = Arc::new(rt.alloc(), Gate::new(rt.alloc()))?;
     let Bench {

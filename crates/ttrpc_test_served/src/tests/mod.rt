@@ -4,6 +4,7 @@ mod floods;
 mod gate;
 mod handlers;
 mod joined_tests;
+mod room_tests;
 mod runs;
 mod script_tests;
 mod sites;

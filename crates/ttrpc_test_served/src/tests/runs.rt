@@ -1,4 +1,4 @@
-//! What the tests run: the acts of a client beside a server, and the lines of a client to a server.
+//! The runs of the tests: the acts of a client with a server, and the lines of a client to a server.
 use crate::tests::gate::Gate;
 use crate::tests::sites::{Ends, Near, TestServer, make_server};
 use futures::Future;
@@ -16,7 +16,7 @@ use ttrpc_polled::Timed;
 use ttrpc_polled_client::Client;
 use ttrpc_secure::{HookOutput, Plain};
 
-/// What a test needs of the system.
+/// The parts of the system that a test uses.
 pub trait System: Timed + Wait + Net + RandomSource {}
 
 impl<R: Timed + Wait + Net + RandomSource> System for R {}
@@ -28,8 +28,8 @@ pub struct Pipe {
     pub writer: DuplexStream,
 }
 
-/// Makes the client's ends and the server's, between which so many bytes are under way each way at most.
-fn pipes(alloc: Global, room: usize) -> Result<(Pipe, Pipe), AllocError> {
+/// Returns the client's ends and the server's. At most `room` bytes are under way in each direction.
+pub fn pipes(alloc: Global, room: usize) -> Result<(Pipe, Pipe), AllocError> {
     let (up, up_far) = duplex(alloc, room.max(1))?;
     let (down, down_far) = duplex(alloc, room.max(1))?;
     let near = Pipe {
@@ -52,7 +52,7 @@ pub struct Bench<R: System> {
     pub far: Pipe,
 }
 
-/// Makes a server whose handlers have this gate, with so many bytes under way each way at most.
+/// Returns a server with handlers that have this gate. At most `room` bytes are under way in each direction.
 pub fn make_bench<R: System>(
     rt: &R,
     gate: &Arc<Gate, Global>,
@@ -69,7 +69,7 @@ pub fn make_bench<R: System>(
     })
 }
 
-/// Does these acts of a client beside a server, with so many bytes under way each way at most.
+/// Does these acts of a client with a server. At most `room` bytes are under way in each direction.
 pub fn run_acts<R: System>(rt: &R, room: usize, acts: &[Act]) -> Result<Option<Fault>, Fail> {
     let gate = Arc::new(rt.alloc(), Gate::new(rt.alloc()))?;
     let Bench {
@@ -83,7 +83,7 @@ pub fn run_acts<R: System>(rt: &R, room: usize, acts: &[Act]) -> Result<Option<F
     run_beside_client(rt, &mut runtime, &mut server, far, connection, script)
 }
 
-/// Makes a client that reads and writes here, and its connection.
+/// Returns a client that uses this pipe, and its connection.
 pub fn client_of<R: System>(
     rt: &R,
     handle: &Handle,
@@ -94,7 +94,7 @@ pub fn client_of<R: System>(
     Ok(Client::over(rt.clone()?, handle, reader, writer, output)?)
 }
 
-/// Runs this, with the connection of its client and one of the server, until it is done.
+/// Polls `does` with the connection of its client and one of the server, until it is done.
 pub fn run_beside_client<R: System, D: Future<Output = Option<Fault>>>(
     rt: &R,
     runtime: &mut LocalRuntime,
@@ -112,7 +112,7 @@ pub fn run_beside_client<R: System, D: Future<Output = Option<Fault>>>(
     Ok(runtime.block_on(rt, parts)?)
 }
 
-/// Runs this beside a connection of the server, until it is done.
+/// Polls `does` together with a connection of the server, until it is done.
 pub fn run_beside<R: System, D: Future<Output = Option<Fault>>>(
     rt: &R,
     runtime: &mut LocalRuntime,
@@ -129,8 +129,8 @@ pub fn run_beside<R: System, D: Future<Output = Option<Fault>>>(
     Ok(runtime.block_on(rt, parts)?)
 }
 
-/// Says a client's part of these lines to a server, with so many bytes under way each way at most, until both are done. Streams
-/// begin bare, or with an item.
+/// Sends a client's part of these lines to a server, until both are done. At most `room` bytes are under way in each
+/// direction. Streams begin bare, or with an item.
 pub fn run_lines<R: System>(
     rt: &R,
     gate: &Arc<Gate, Global>,
@@ -152,7 +152,7 @@ pub fn run_lines<R: System>(
     Ok(runtime.block_on(rt, parts)?)
 }
 
-/// Makes who says a client's part of these lines here.
+/// Returns the speaker of a client's part of these lines.
 pub fn speaker<'a>(lines: &'a [Line<'a>], pipe: Pipe) -> Speaker<'a, DuplexStream, DuplexStream> {
     let Pipe { reader, writer } = pipe;
     Speaker::new(Side::Client, lines, reader, writer)

@@ -1,4 +1,4 @@
-//! What a client does beside a server, act by act.
+//! The acts of a client with a server.
 use crate::tests::runs::run_acts;
 use std::test::Fail;
 use ttrpc_bench::checks::{check_named, check_named_row};
@@ -6,7 +6,7 @@ use ttrpc_bench_polled::acts::Act::{self, *};
 
 pub const SENT_BACK: &[Act] = &[Calls("Echo", b"\x2a", 0), Ends(0, Ok(b"\x2a"))];
 
-/// What a handler fails by is told by a status.
+/// The failure of a handler is reported as a status.
 const FAILS: &[Act] = &[
     Calls("Ends", b"", 0),
     Ends(0, Err("rpc status: 2 eof")),
@@ -16,7 +16,7 @@ const FAILS: &[Act] = &[
     Ends(2, Err("rpc status: 12 Nope method")),
 ];
 
-/// A handler is handed its own request: id, limit, how many keys, method.
+/// A handler gets its own request: id, timeout, number of keys, method.
 const HANDED: &[Act] = &[
     Calls("Tells", b"", 0),
     Calls("Tells", b"", 5_000_000_000),
@@ -26,7 +26,7 @@ const HANDED: &[Act] = &[
     Ends(0, Ok(b"1 0 0 Tells")),
 ];
 
-/// A handler waits until another call was answered, and then is told to go on.
+/// A handler waits until another call was answered, and then is let go on.
 const ONE_BESIDE_ANOTHER: &[Act] = &[
     Calls("Waits", b"1", 10_000_000_000),
     Calls("Echo", b"2", 0),
@@ -38,7 +38,7 @@ const ONE_BESIDE_ANOTHER: &[Act] = &[
     Ends(0, Ok(b"1")),
 ];
 
-/// A call expires whose handler never ends, beside another of that kind, and others go on.
+/// A call with a handler that never ends expires, while another call of that kind and others go on.
 const EXPIRES: &[Act] = &[
     Calls("NeverEnds", b"1", 0),
     Calls("NeverEnds", b"2", 50_000_000),
@@ -49,7 +49,7 @@ const EXPIRES: &[Act] = &[
     Ends(2, Ok(b"3")),
 ];
 
-/// Calls that are dropped before they are written, in the middle of that, and once they are answered.
+/// Calls that are dropped before they are written, in the middle of writing, and after they are answered.
 const FORGOTTEN: &[Act] = &[
     Calls("NeverEnds", b"1", 0),
     Begins(0),
@@ -82,7 +82,7 @@ pub const CHAT: &[Act] = &[
     Receives(0, Err("ttrpc err: remote stream closed")),
 ];
 
-/// A server hears items in order, one of them empty, then the end, and then that there is nothing more.
+/// A server receives items in order, one of them empty, then the end, and then the error that there is nothing more.
 pub const HEARD: &[Act] = &[
     Opens("Hears", b"", true, true),
     Sends(0, b"a", None),
@@ -97,7 +97,7 @@ pub const HEARD: &[Act] = &[
     Receives(0, Err("ttrpc err: remote stream closed")),
 ];
 
-/// A stream that is asked in vain, and left, beside one that goes on.
+/// A stream is polled for an item in vain, and dropped, while another one goes on.
 const LEFT: &[Act] = &[
     Opens("Chat", b"", true, true),
     Opens("Chat", b"", true, true),
@@ -111,7 +111,7 @@ const LEFT: &[Act] = &[
     Ends(0, Ok(b"b")),
 ];
 
-/// A stream of the client, and one of the server.
+/// A stream with items of the client, and one with items of the server.
 const ONE_SIDED: &[Act] = &[
     Opens("Sum", b"", true, false),
     Sends(0, b"1", None),
@@ -125,7 +125,7 @@ const ONE_SIDED: &[Act] = &[
     Receives(1, Err("eof")),
 ];
 
-/// A call of many bytes, behind one that is polled once and never again.
+/// A call with many bytes, after one that is polled once and never again.
 const LONG: &[Act] = &[
     Calls("Echo", b"1", 0),
     Begins(0),
@@ -133,7 +133,7 @@ const LONG: &[Act] = &[
     EndsLong(1, 100000),
 ];
 
-/// Returns the script of this number, from 0, with its name.
+/// Returns the script with this number, from 0, with its name.
 fn script(number: u8) -> Option<(&'static str, &'static [Act])> {
     Some(match number {
         0 => ("sent back", SENT_BACK),
@@ -151,6 +151,10 @@ fn script(number: u8) -> Option<(&'static str, &'static [Act])> {
     })
 }
 
+// Seen to fail if a handler begins only after the one before it has ended; two jobs begin under each other's number; a caller isn't
+// woken when its call ends. Should fail if a call, an opening, a send or a receipt is ready at once with an error; an item is asked for
+// twice; a connection is over at once, or makes turns and moves nothing, or is asked to end at once; a handler that may expire is
+// reported as expired at once.
 #[test]
 fn scripts_come_to_what_they_state(rt: HostRuntime) -> Result<(), Fail> {
     for number in 0..100 {

@@ -30,7 +30,7 @@ pub type Near<R> = ClientConnection<R, DuplexStream, DuplexStream, Plain, Plain>
 /// The connection of a server.
 pub type Far<R> = ServerConnection<R, Method, Streaming, DuplexStream, DuplexStream, Plain, Plain>;
 
-/// Both ends of a connection, each as long as it isn't over.
+/// Both ends of a connection, each until it has ended.
 #[derive(Drop)]
 pub struct Ends<A, B> {
     near: Option<A>,
@@ -105,7 +105,7 @@ impl<A: Future<Output = ()>, B: Future<Output = ()>> Future for Ends<A, B> {
     }
 }
 
-/// What is done first, and what is done behind it.
+/// A future that is polled first, and one that is polled after it.
 #[derive(Drop)]
 pub struct Behind<A, B> {
     pub first: Option<A>,
@@ -134,7 +134,7 @@ impl<A: Future<Output = Option<Fault>>, B: Future<Output = Option<Fault>>> Futur
     }
 }
 
-/// Makes the server of the tests, which waits shortly for what is left.
+/// Returns the server of the tests, which waits shortly for the rest when it ends.
 pub fn make_server<R: Timed>(
     rt: &R,
     handle: &Handle,
@@ -173,7 +173,7 @@ const STREAMS: [(&str, Streams); 10] = [
     ("Beats", Streams::Beats),
 ];
 
-/// Makes the service `demo.Echo`.
+/// Returns the service `demo.Echo`.
 pub fn services(
     alloc: Global,
     gate: &Arc<Gate, Global>,

@@ -1,4 +1,5 @@
-//! Connections that a server ends: with jobs under way, at rest, with a handler that never ends, and with a peer that doesn't read.
+//! Connections that a server ends: with running jobs, at rest, with a handler that never ends, and with a peer that
+//! doesn't read.
 ghost use Rattle.futures.specs.Poll.{OnPending};
 ghost use Rattle.futures.specs.Task.{IsArmed, Keeps};
 
@@ -28,10 +29,10 @@ use ttrpc_polled_server::Disconnect;
 use ttrpc_proto::{Error, Result as RpcResult};
 use ttrpc_secure::{HookOutput, Plain};
 
-/// What goes on before a server disconnects.
+/// The work before a server disconnects.
 type Before<'a, R> = Either<Script<'a, R>, Speaker<'a, DuplexStream, DuplexStream>>;
 
-/// What goes on, then a server that disconnects, at which a gate is opened, and then other acts.
+/// The work before, then a server that disconnects, which opens a gate, and then other acts.
 #[derive(Drop)]
 struct Stopping<'a, R: Timed> {
     doer: Before<'a, R>,
@@ -42,7 +43,7 @@ struct Stopping<'a, R: Timed> {
 }
 
 impl<R: Timed> Stopping<'_, R> {
-    /// Polls the server's end, at which the gate is opened. Ready: whether connections are left as they should be.
+    /// Polls the server's disconnection, which opens the gate. Ready with whether connections are left as expected.
     fn poll_disconnect(&mut self, disconnect: Disconnect, cx: &mut Context<'_>) -> Poll<bool>
         ensures registered { OnPending result (IsArmed cx.new) }
         ensures kept { Keeps cx.old cx.new }
@@ -58,7 +59,7 @@ impl<R: Timed> Stopping<'_, R> {
         }
     }
 
-    /// Polls the server's end, and then the other acts. Ready: the first fault, or none.
+    /// Polls the server's disconnection, and then the other acts. Ready with the first fault, or with `None`.
     fn poll_stop(&mut self, cx: &mut Context<'_>) -> Poll<Option<Fault>>
         ensures registered { OnPending result (IsArmed cx.new) }
         ensures kept { Keeps cx.old cx.new }
@@ -105,7 +106,7 @@ fn has_left(ended: &RpcResult<()>) -> bool {
     }
 }
 
-/// Does these acts beside a server, disconnects that, within this limit, and does the other acts.
+/// Does these acts with a server, disconnects the server within this limit, and does the other acts.
 fn stop<'a, R: System>(
     rt: &R,
     limit: Duration,
@@ -168,10 +169,10 @@ const GONE_CALL: &[Act] = &[Act::Ends(0, Err(GONE))];
 
 const GONE_STREAM: &[Act] = &[Act::Receives(0, Err(GONE))];
 
-/// A name, a limit in milliseconds, what is done before, whether connections are left, and what is done behind.
+/// A name, a limit in milliseconds, the acts before, whether connections are left, and the acts after.
 type Stopped = (&'static str, u64, &'static [Act], bool, &'static [Act]);
 
-/// Returns the end of this number, from 0.
+/// Returns the end with this number, from 0.
 fn end(number: u8) -> Option<Stopped> {
     Some(match number {
         0 => ("at rest", 400, ECHOED, false, GONE_BEHIND),
@@ -183,6 +184,8 @@ fn end(number: u8) -> Option<Stopped> {
     })
 }
 
+// Seen to fail if a connection that is over keeps its waiter. Should fail if a disconnect is done, or has failed, at once; a connection that
+// ends waits for its handlers forever.
 #[test]
 fn a_server_ends_its_connections(rt: HostRuntime) -> Result<(), Fail> {
     for number in 0..100 {
@@ -195,7 +198,7 @@ fn a_server_ends_its_connections(rt: HostRuntime) -> Result<(), Fail> {
     Ok(())
 }
 
-/// A request of `Echo` with the payload 2a, twice as often as its answers have room.
+/// Two requests of `Echo`. There is room for one of their answers.
 const ASKED_OFTEN: &[Line<'static>] = &[Line::Up(
     b"\0\0\0\x14\0\0\0\x01\x01\0\x0a\x09demo.Echo\x12\x04Echo\x1a\x01\x2a\0\0\0\x14\0\0\0\x03\x01\0\x0a\x09demo.Echo\x12\x04Echo\x1a\x01\x2b",
 )];
@@ -221,7 +224,7 @@ fn a_server_ends_the_connection_of_a_peer_that_reads_nothing(rt: HostRuntime) ->
     check_named("a line comes otherwise, or it doesn't end", fault.is_none())
 }
 
-/// A server's end, whose polls are counted.
+/// A server's disconnection that counts its polls.
 #[derive(Drop)]
 struct Counted {
     disconnect: Disconnect,
@@ -255,7 +258,7 @@ fn make_counted<R: System>(
 /// A request of a handler that never ends.
 const UNLIMITED: &[u8] = b"\0\0\0\x16\0\0\0\x01\x01\0\x0a\x09demo.Echo\x12\x09NeverEnds";
 
-/// A peer that asks for that, and says no more.
+/// Returns a peer that sends such a request, and sends no more.
 fn asker(alloc: Global) -> Result<(First, Taking), Fail> {
     let reader = First::new(
         UNLIMITED,
@@ -268,7 +271,8 @@ fn asker(alloc: Global) -> Result<(First, Taking), Fail> {
     Ok((reader, writer))
 }
 
-/// Waits twice for the end of a connection whose handler never ends. How often both were polled, unless one has failed.
+/// Waits twice for the end of a connection with a handler that never ends. Returns how often both were polled, unless
+/// one has failed.
 fn wait_twice<R: System>(rt: &R) -> Result<Option<u32>, Fail> {
     let alloc = rt.alloc();
     let polls = Arc::new(alloc, Cell::new(0))?;
@@ -291,6 +295,7 @@ fn wait_twice<R: System>(rt: &R) -> Result<Option<u32>, Fail> {
     })
 }
 
+// Should fail if two that wait for an end wake each other.
 #[test]
 fn two_who_wait_for_an_end_are_both_told(rt: HostRuntime) -> Result<(), Fail> {
     let polls = wait_twice(&rt)?;

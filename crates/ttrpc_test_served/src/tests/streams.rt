@@ -1,4 +1,4 @@
-//! The streams of the service `demo.Echo`, as the tests have it.
+//! The streams of the tests' service `demo.Echo`.
 ghost use Rattle.std.specs.Prelude.{⊤};
 ghost use Rattle.futures.specs.Poll.{OnPending};
 ghost use Rattle.futures.specs.Task.{IsArmed, Keeps};
@@ -15,26 +15,26 @@ use ttrpc_polled_server::{StreamHandler, TtrpcContext};
 use ttrpc_proto::{Error, Response, Result};
 use ttrpc_wire::Blob;
 
-/// What a stream does.
+/// The behaviour of a stream.
 #[derive(Clone, Copy, Debug, PartialEq, Eq)]
 pub enum Streams {
-    /// It sends each item back, and then closes.
+    /// Sends each item back, and then closes.
     Chat,
-    /// It sends each item back, and then ends with a message.
+    /// Sends each item back, and then ends with a message.
     Last,
-    /// It sends each item back, and that there are no more; then it ends by what it hears behind that.
+    /// Sends each item back, and then the item `eof`. After that it ends with the next result that it receives.
     Hears,
-    /// It ends with how many items came, and how many bytes in all.
+    /// Ends with the number of items, and the number of bytes in all.
     Sum,
-    /// It ends with how many items came, and how many of them ended with their own number, from 0.
+    /// Ends with the number of items, and the number of those that ended with their own number, from 0.
     Order,
-    /// It sends as many items as its first one says, and then closes.
+    /// Sends the number of items that its first one states, and then closes.
     Count,
-    /// It fails by the status that its first item is.
+    /// Fails with the status in its first item.
     Fail,
-    /// It closes at once.
+    /// Closes at once.
     Early,
-    /// It sends three items, with some polls before each, while it listens.
+    /// Sends three items, with some polls before each, while it receives.
     Beats,
 }
 
@@ -45,14 +45,14 @@ pub struct Streaming {
     pub gate: Arc<Gate, Global>,
 }
 
-/// Where a stream's handler is.
+/// The state of a stream's handler.
 #[derive(Drop)]
 enum Turn {
-    /// It waits for an item.
+    /// Waits for an item.
     Receives,
-    /// It sends one.
+    /// Sends an item.
     Sends(Sending),
-    /// It has ended.
+    /// The handler has ended.
     Done,
 }
 
@@ -92,10 +92,10 @@ impl StreamHandler<Shared> for Streaming {
     }
 }
 
-/// How many polls are between two items of a beat.
+/// The number of polls between two items of a beat.
 const PAUSE: u64 = 20;
 
-/// What a turn came to: the end of the stream, unless it is none.
+/// The result of a turn: the end of the stream, or `None`.
 type Turned = Option<Result<Option<Response>>>;
 
 impl StreamingCall {
@@ -115,7 +115,7 @@ impl StreamingCall {
         }
     }
 
-    /// Listens, and goes on to the next beat behind a pause.
+    /// Receives, and goes on to the next beat after a pause.
     fn poll_beat(&mut self, cx: &mut Context<'_>) -> Poll<Turned>
         ensures registered { OnPending result (IsArmed cx.new) }
         ensures kept { Keeps cx.old cx.new }
@@ -233,7 +233,7 @@ impl StreamingCall {
         None
     }
 
-    /// Begins to send the next of the items that are counted, or closes.
+    /// Begins to send the next of the counted items, or closes.
     fn send_next(&mut self) -> Turned {
         if self.left == 0 {
             return Some(Ok(None));
@@ -249,7 +249,7 @@ impl StreamingCall {
         None
     }
 
-    /// Returns how it ends once the client sends no more.
+    /// Returns the stream's end after the client has closed.
     fn at_end(&self) -> Result<Option<Response>> {
         match self.does {
             Streams::Last => Ok(Some(answer(
@@ -266,7 +266,7 @@ impl StreamingCall {
         }
     }
 
-    /// Returns both sums, eight bytes each, the greatest first.
+    /// Returns both sums, each in eight bytes in big-endian order.
     fn sums(&self) -> std::result::Result<Blob, AllocError> {
         let mut told = Vec::with_capacity(self.alloc, 16)?;
         told.extend_from_slice(&self.items.to_be_bytes())?;
@@ -281,7 +281,7 @@ impl StreamingCall {
     }
 }
 
-/// Returns the number with which an item ends.
+/// Returns the number that an item ends with.
 fn number_in(item: &Blob) -> Option<u64> {
     match item.as_slice().last() {
         Some(byte) => Some(u64::from(*byte)),
@@ -289,7 +289,7 @@ fn number_in(item: &Blob) -> Option<u64> {
     }
 }
 
-/// How many turns are done at most before other tasks go on.
+/// The number of turns of one poll, before other tasks go on.
 const TURNS: u32 = 64;
 
 impl Future for StreamingCall {

@@ -1,4 +1,4 @@
-//! How long one poll of a server's connection goes on, and what it looks at first, while input keeps coming.
+//! The length of one poll of a server's connection, and the order of its work, while input keeps coming.
 use crate::tests::floods::{
     Behind, Costs, First, Flood, Moment, Polled, Seen, Taking, TestClock, Told,
 };
@@ -17,14 +17,14 @@ use ttrpc_bench::checks::{check_named, check_named_row};
 use ttrpc_polled_server::{NoStreams, Server, Service};
 use ttrpc_secure::{HookOutput, Plain};
 
-/// What a test's server asks of the system: a clock that is set on, and memory.
+/// The system of a test's server: a clock that a test advances, and memory.
 type Late = (TestClock, Global);
 
-/// A server of a method that costs time.
+/// A server with a method that costs time.
 type CostlyServer = Server<Late, Costs, NoStreams>;
 
-/// What came of a flood: how many handlers were begun, how many requests were read, how many bytes were written at once at most,
-/// and whether the connection is over.
+/// The results of a flood: the numbers of handlers that were begun, of requests that were read, and of bytes that were
+/// written at once at most, and whether the connection has ended.
 #[derive(Clone, Copy, Debug)]
 struct Came {
     begun: u32,
@@ -33,7 +33,7 @@ struct Came {
     is_over: bool,
 }
 
-/// The moment at which a test begins: a timer of the event loop that is set for a later one doesn't ring.
+/// The moment at which a test begins: a timer of the event loop that is set for a later moment doesn't ring.
 const BEGIN: u64 = 1_000_000_000_000_000;
 
 /// The counters of a flood.
@@ -65,7 +65,7 @@ impl Counters {
     }
 }
 
-/// Makes a clock that shows this moment.
+/// Returns a clock that shows this moment.
 fn late_of(alloc: Global, moment: &Moment) -> Result<Late, Fail> {
     let clock = TestClock {
         moment: Arc::try_clone(moment)?,
@@ -73,7 +73,7 @@ fn late_of(alloc: Global, moment: &Moment) -> Result<Late, Fail> {
     Ok((clock, alloc))
 }
 
-/// Makes a server of `Echo`, each call of which costs so many nanoseconds.
+/// Returns a server of `Echo`. Each of its calls costs `cost` nanoseconds.
 fn costly(alloc: Global, handle: &Handle, of: &Counters, cost: u64) -> Result<CostlyServer, Fail> {
     let method = Costs {
         moment: Arc::try_clone(&of.moment)?,
@@ -89,7 +89,7 @@ fn costly(alloc: Global, handle: &Handle, of: &Counters, cost: u64) -> Result<Co
     Ok(Server::new(late_of(alloc, &of.moment)?, handle)?.register_service(services)?)
 }
 
-/// Makes both sides of a connection whose input is a flood.
+/// Returns both sides of a connection with a flood as its input.
 fn sides(of: &Counters) -> Result<(Flood, Taking), Fail> {
     let reader = Flood {
         given: Arc::try_clone(&of.given)?,
@@ -100,7 +100,8 @@ fn sides(of: &Counters) -> Result<(Flood, Taking), Fail> {
     Ok((reader, writer))
 }
 
-/// Polls a connection so often whose input is a flood of calls that cost so many nanoseconds, and of which so many wait at most.
+/// Polls a connection `polls` times with a flood of calls as its input. Each call costs `cost` nanoseconds, and at most
+/// `waiting` calls wait.
 fn flood<R: System>(rt: &R, polls: u32, cost: u64, waiting: u64) -> Result<Came, Fail> {
     let mut runtime = LocalRuntime::new(rt)?;
     let of = Counters::new(rt.alloc())?;
@@ -118,21 +119,24 @@ fn flood<R: System>(rt: &R, polls: u32, cost: u64, waiting: u64) -> Result<Came,
     Ok(of.came(is_over))
 }
 
-/// How many requests the largest piece has.
+/// The number of requests in the largest piece.
 const PIECE: u32 = 65_536 / 30;
 
+// Should fail if one poll works at 64 jobs.
 #[test]
 fn a_poll_works_at_few_jobs(rt: HostRuntime) -> Result<(), Fail> {
     let came = flood(&rt, 1, 0, 4096)?;
     check_named("it works at none, or at many", came.begun == 16)
 }
 
+// Should fail if one poll works at 64 jobs.
 #[test]
 fn a_poll_ends_behind_a_job_that_takes_long(rt: HostRuntime) -> Result<(), Fail> {
     let came = flood(&rt, 1, 1_000_000, 4096)?;
     check_named("it goes on", came.begun == 1)
 }
 
+// Should fail if ready answers wait for many others.
 #[test]
 fn ready_answers_wait_for_few_others(rt: HostRuntime) -> Result<(), Fail> {
     let (fast, slow) = (
@@ -143,6 +147,7 @@ fn ready_answers_wait_for_few_others(rt: HostRuntime) -> Result<(), Fail> {
     check_named("they wait", leave_soon && fast.begun == 16_000)
 }
 
+// Should fail if input has no bound.
 #[test]
 fn a_connection_of_which_many_jobs_wait_is_not_read(rt: HostRuntime) -> Result<(), Fail> {
     for waiting in [10, 4096] {
@@ -154,7 +159,7 @@ fn a_connection_of_which_many_jobs_wait_is_not_read(rt: HostRuntime) -> Result<(
     Ok(())
 }
 
-/// Polls such a connection whose server disconnects meanwhile.
+/// Polls such a connection. Meanwhile its server disconnects.
 fn tell_in_a_flood<R: System>(rt: &R) -> Result<Came, Fail> {
     let mut runtime = LocalRuntime::new(rt)?;
     let of = Counters::new(rt.alloc())?;
@@ -176,26 +181,29 @@ fn tell_in_a_flood<R: System>(rt: &R) -> Result<Came, Fail> {
     Ok(of.came(is_over))
 }
 
+// Should fail if no end is looked at while input keeps coming.
 #[test]
 fn a_server_ends_a_connection_whose_input_keeps_coming(rt: HostRuntime) -> Result<(), Fail> {
     let came = tell_in_a_flood(&rt)?;
     check_named("it goes on", came.is_over && came.begun <= 17)
 }
 
-/// A request of a handler that never ends, with a limit of 20 ms, and without one.
+/// A request of a handler that never ends, with a timeout of 20 ms, and one without a timeout.
 const LIMITED: &[u8] = b"\
     \0\0\0\x1b\0\0\0\x01\x01\0\x0a\x09demo.Echo\x12\x09NeverEnds\x20\x80\xda\xc4\x09";
 
 const UNLIMITED: &[u8] = b"\0\0\0\x16\0\0\0\x01\x01\0\x0a\x09demo.Echo\x12\x09NeverEnds";
 
-/// What comes of a handler that never ends: whether its connection is over, and how many handlers are left.
+/// The results with a handler that never ends: whether its connection has ended, and the number of handlers that are
+/// left.
 #[derive(Clone, Copy, Debug, PartialEq, Eq)]
 struct Left {
     is_over: bool,
     handlers: usize,
 }
 
-/// A server that waits for an hour for its handlers as it ends, and for so long behind the end of an input.
+/// Returns a server that waits for an hour for its handlers when it ends, and for `half_close` after the end of an
+/// input.
 fn patient(
     late: &Late,
     handle: &Handle,
@@ -209,7 +217,8 @@ fn patient(
     )
 }
 
-/// Polls a connection so often, with so many nanoseconds behind each poll, whose input is this request and then what is stated.
+/// Polls a connection `polls` times, with `step` nanoseconds after each poll. Its input is this request, and then the
+/// given input.
 fn leave<R: System>(
     rt: &R,
     polls: u32,
@@ -251,18 +260,19 @@ fn five_seconds() -> Option<Duration> {
     Some(Duration::from_secs(5))
 }
 
-/// A handler is gone whose time is over, and the connection goes on.
+/// An expired handler is gone, and the connection goes on.
 const GONE: Left = Left {
     is_over: false,
     handlers: 0,
 };
 
-/// A handler goes on.
+/// The handler goes on.
 const GOES_ON: Left = Left {
     is_over: false,
     handlers: 1,
 };
 
+// Should fail if no job expires while input keeps coming.
 #[test]
 fn a_job_expires_while_input_keeps_coming(rt: HostRuntime) -> Result<(), Fail> {
     let (early, late) = (
@@ -272,12 +282,14 @@ fn a_job_expires_while_input_keeps_coming(rt: HostRuntime) -> Result<(), Fail> {
     check_named("it isn't told in time", early == GOES_ON && late == GONE)
 }
 
+// Should fail if a handler outlives its connection.
 #[test]
 fn a_handler_goes_with_its_connection(rt: HostRuntime) -> Result<(), Fail> {
     let left = leave(&rt, 50, 0, (UNLIMITED, Behind::Reset), None)?;
     check_named("it stays", left.is_over)
 }
 
+// Should fail if a handler may take any time after the end of input.
 #[test]
 fn a_handler_has_a_limited_time_behind_the_end_of_input(rt: HostRuntime) -> Result<(), Fail> {
     let second = 1_000_000_000;
@@ -293,7 +305,7 @@ fn a_handler_has_a_limited_time_behind_the_end_of_input(rt: HostRuntime) -> Resu
 /// The front of a request.
 const HALF: &[u8] = b"\0\0\0\x16\0\0";
 
-/// Polls a connection of a server with this limit, whose peer pauses inside a frame.
+/// Polls a connection of a server with this limit. Its peer pauses inside a frame.
 fn pause<R: System>(rt: &R, limit: Option<Duration>) -> Result<bool, Fail> {
     let mut runtime = LocalRuntime::new(rt)?;
     let of = Counters::new(rt.alloc())?;

@@ -1,4 +1,4 @@
-//! Services that have no streams, or no methods.
+//! Services without streams, or without methods.
 use crate::polled::{FlowsClient, PlainlyClient, flows_service, plainly_service};
 use crate::tests::sites::{Ends, Site, System, holds, is_told, item};
 use crate::told::Told;

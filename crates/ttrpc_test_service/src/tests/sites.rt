@@ -1,4 +1,4 @@
-//! A client beside a server of any services, in one event loop.
+//! A client together with a server of any services, in one event loop.
 ghost use Rattle.std.specs.Prelude.{IfSome};
 ghost use Rattle.futures.specs.Task.{Keeps};
 
@@ -22,7 +22,7 @@ use ttrpc::asynchronous::{
 use ttrpc::proto::{Blob, Text};
 use ttrpc::security_extension::{HookOutput, Plain};
 
-/// What a test needs of the system.
+/// The parts of the system that a test uses.
 pub trait System: Timed + Wait + Net + RandomSource {}
 
 impl<R: Timed + Wait + Net + RandomSource> System for R {}
@@ -33,7 +33,8 @@ type Near<R> = ClientConnection<R, DuplexStream, DuplexStream, Plain, Plain>;
 /// The server's end.
 type Far<R, M, T> = ServerConnection<R, M, T, DuplexStream, DuplexStream, Plain, Plain>;
 
-/// A step, and both ends of a connection beside it, each as long as it goes on. Ready: what the step gives, and the ends.
+/// A step, and both ends of a connection that are polled together with it, each until it ends. Ready with the step's
+/// output and the ends.
 #[derive(Drop)]
 struct Beside<F, A, B> {
     step: F,
@@ -41,7 +42,7 @@ struct Beside<F, A, B> {
     far: Option<B>,
 }
 
-/// Polls an end, if there is one, and keeps it if it goes on.
+/// Polls an end, if there is one, and keeps it if it is pending.
 fn poll_end<E: Future<Output = ()>>(end: &mut Option<E>, cx: &mut Context<'_>)
     requires { IfSome end.old E.can_poll }
     ensures again { IfSome end.new E.can_poll }
@@ -59,7 +60,8 @@ impl<F: Future, A: Future<Output = ()>, B: Future<Output = ()>> Future for Besid
 
     ghost use Rattle.std.specs.Prelude.{IfSome};
 
-    ghost can_poll = { λ b. F.can_poll b.step × IfSome b.near A.can_poll × IfSome b.far B.can_poll };
+    ghost can_poll = { λ b. F.can_poll b.step × IfSome b.near A.can_poll
+        × IfSome b.far B.can_poll };
 
     ghost needs = { λ b. F.needs b.step };
 
@@ -75,7 +77,7 @@ impl<F: Future, A: Future<Output = ()>, B: Future<Output = ()>> Future for Besid
     }
 }
 
-/// Both ends of a connection, which go on beside what a test does.
+/// Both ends of a connection, which are polled while a test does its steps.
 #[derive(Drop)]
 pub struct Ends<A: Future<Output = ()>, B: Future<Output = ()>> {
     runtime: LocalRuntime,
@@ -105,7 +107,7 @@ impl<A: Future<Output = ()>, B: Future<Output = ()>> Ends<A, B> {
         }
     }
 
-    /// Does this step, while both ends go on.
+    /// Does this step, and polls both ends meanwhile.
     pub fn done<R: System, F: Future>(&mut self, rt: &R, step: F) -> Result<F::Output, Fail>
     where
         F::Output: Drop,
@@ -121,7 +123,7 @@ impl<A: Future<Output = ()>, B: Future<Output = ()>> Ends<A, B> {
     }
 }
 
-/// A server of these services.
+/// Returns a server of these services.
 fn make_server<R: System, M: MethodHandler, T: StreamHandler<ServerShared<Plain, Plain>>>(
     rt: &R,
     handle: &Handle,
@@ -139,7 +141,7 @@ pub struct Site<R: Timed, M: MethodHandler, T: StreamHandler<ServerShared<Plain,
 }
 
 impl<R: System, M: MethodHandler, T: StreamHandler<ServerShared<Plain, Plain>>> Site<R, M, T> {
-    /// A client and a server of these services, over bytes in memory.
+    /// Returns a client and a server of these services, over bytes in memory.
     pub fn new(rt: &R, services: BTreeMap<String, Service<M, T>>) -> Result<Site<R, M, T>, Fail> {
         let runtime = LocalRuntime::new(rt)?;
         let mut server = make_server(rt, runtime.handle(), services)?;
@@ -156,17 +158,17 @@ impl<R: System, M: MethodHandler, T: StreamHandler<ServerShared<Plain, Plain>>> 
     }
 }
 
-/// What a hook gives for halves that change nothing.
+/// Returns the output of a hook for halves that change nothing.
 fn plain<R: System>(rt: &R) -> HookOutput<Plain, Plain> {
     HookOutput::of_halves(rt.alloc(), Plain {}, Plain {})
 }
 
-/// A failure of this text, where this doesn't hold.
+/// Fails with this text, unless this holds.
 pub fn holds(fact: bool, text: &str) -> Result<(), Fail> {
     if fact { Ok(()) } else { Err(text.into()) }
 }
 
-/// An item of a name of three bytes and a content of two.
+/// Returns an item with a name of three bytes and a content of two.
 pub fn item(alloc: Global) -> Result<Item, Fail> {
     Ok(Item {
         name: Text::from_str(alloc, "one")?,
@@ -174,12 +176,12 @@ pub fn item(alloc: Global) -> Result<Item, Fail> {
     })
 }
 
-/// Whether it is that item.
+/// Returns whether it is that item.
 pub fn is_item(item: &Item) -> bool {
     item.name.as_str() == "one" && item.content.as_slice() == b"ab".as_slice()
 }
 
-/// Whether a handler told an error of this text.
+/// Returns whether it is a handler's error with this text.
 pub fn is_told(error: &Error, text: &str) -> bool {
     match error {
         Error::RpcStatus(status) => status.code == 2 && status.message.as_str() == text,

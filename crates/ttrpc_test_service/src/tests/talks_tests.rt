@@ -52,7 +52,7 @@ fn list<R: System, A: Future<Output = ()>, B: Future<Output = ()>>(
     listed(rt, ends, &mut list)
 }
 
-/// An item of three bytes, and the end.
+/// Receives an item of three bytes, and the end.
 fn listed<R: System, A: Future<Output = ()>, B: Future<Output = ()>>(
     rt: &R,
     ends: &mut Ends<A, B>,
@@ -88,7 +88,7 @@ fn load<R: System, A: Future<Output = ()>, B: Future<Output = ()>>(
     loaded(rt, ends, &mut load)
 }
 
-/// Two items of two bytes are four.
+/// Sends two items of two bytes, and receives the count of four.
 fn loaded<R: System, A: Future<Output = ()>, B: Future<Output = ()>>(
     rt: &R,
     ends: &mut Ends<A, B>,
@@ -111,7 +111,7 @@ fn talk<R: System, A: Future<Output = ()>, B: Future<Output = ()>>(
     closed(rt, ends, &mut talk)
 }
 
-/// An item comes back.
+/// Sends an item, and receives it back.
 fn talked<R: System, A: Future<Output = ()>, B: Future<Output = ()>>(
     rt: &R,
     ends: &mut Ends<A, B>,
@@ -123,7 +123,7 @@ fn talked<R: System, A: Future<Output = ()>, B: Future<Output = ()>>(
     holds(is_item(&back), "Talk gives another item")
 }
 
-/// Nothing more comes once nothing more is sent.
+/// Closes, and receives the end.
 fn closed<R: System, A: Future<Output = ()>, B: Future<Output = ()>>(
     rt: &R,
     ends: &mut Ends<A, B>,
@@ -148,6 +148,8 @@ fn all<R: System, A: Future<Output = ()>, B: Future<Output = ()>>(
     talk(rt, ends, client)
 }
 
+// Should fail if a `CSReceiver` loses an item; a typed send, a call or a stream of a service, `close_and_recv` or an opened request always
+// fails.
 #[test]
 fn each_kind_answers(rt: HostRuntime) -> Result<(), Fail> {
     let Site {

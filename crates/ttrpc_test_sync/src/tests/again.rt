@@ -1,4 +1,4 @@
-//! One loop after the other over one port.
+//! One loop after the other over the same port.
 
 use crate::tests::fakes::{BYTES, Lender, Taker};
 use std::io::ErrorKind;
@@ -24,7 +24,7 @@ fn a_port_is_read_to_again(rt: HostRuntime) -> Tested {
     check(has_broken && has_ended && port.taken.as_slice() == BYTES)
 }
 
-/// What the first writer was lent and didn't take is lent to the next one.
+/// The bytes that were lent to the first writer, and that it didn't take, are lent to the next one.
 #[test]
 fn a_port_is_written_from_again(rt: HostRuntime) -> Tested {
     let mut port = Lender::new(BYTES, 9, 6);

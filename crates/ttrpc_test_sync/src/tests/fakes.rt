@@ -10,10 +10,10 @@ use std::test::Fail;
 use ttrpc_bench::ROOM;
 use ttrpc_sync::{PortState, ReadPort, WritePort};
 
-/// Twenty bytes, each another.
+/// Twenty different bytes.
 pub const BYTES: &[u8] = b"ABCDEFGHIJKLMNOPQRST";
 
-/// More bytes than two pieces have: 0 to 250, again and again.
+/// Returns more bytes than two pieces have: 0 to 250, again and again.
 pub fn long_bytes(alloc: Global) -> Result<Vec<u8>, Fail> {
     let mut bytes = Vec::with_capacity(alloc, ROOM)?;
     for at in 0..10000u32 {
@@ -22,21 +22,21 @@ pub fn long_bytes(alloc: Global) -> Result<Vec<u8>, Fail> {
     Ok(bytes)
 }
 
-/// The count with one loop more, where it can be told.
+/// Returns the count with one more loop, or `None` if there is no such count.
 pub fn one_more(count: Option<u32>) -> Option<u32>
     ensures { IsOneMore count result }
 {
     count?.checked_add(1)
 }
 
-/// Takes at most `step` bytes of a piece, and wants no more once it has taken `room`, or where it finds no memory.
-/// One that rests takes nothing at each second offer.
+/// A port that takes at most `step` bytes of a piece. It wants no more after it has taken `room` bytes, or if memory is
+/// refused. If it rests, it takes nothing at each second offer.
 #[derive(Drop)]
 pub struct Taker {
     pub taken: Vec<u8>,
     pub state: PortState,
     pub begun: Option<u32>,
-    /// How many reads it wants.
+    /// The number of reads that it wants.
     pub reads: usize,
     step: usize,
     room: usize,
@@ -104,9 +104,9 @@ impl ReadPort for Taker {
     }
 }
 
-/// Lends these bytes, at most `step` at once. They come `batch` at a time, each time that it is asked for more. It
-/// wants to end where it is asked and all have come. Where it is shown how many bytes have gone through to the other
-/// side, it counts how often it was asked for more early, before all that was reported had gone through.
+/// A port that lends these bytes, at most `step` at a time. They come `batch` at a time, each time that it is asked for
+/// more. It wants to end if it is asked when all have come. If it is given the number of bytes that have gone through
+/// to the other side, it counts how often it was asked for more too early: before all reported bytes had gone through.
 #[derive(Drop)]
 pub struct Lender<'a> {
     bytes: &'a [u8],
@@ -145,7 +145,7 @@ impl Lender<'_> {
 }
 
 impl Lender<'_> {
-    /// Something that was reported has not gone through.
+    /// Returns whether some reported bytes have not gone through.
     fn is_early(&self) -> bool {
         match self.through {
             Some(through) => through.get() != self.at,

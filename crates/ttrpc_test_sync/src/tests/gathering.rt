@@ -1,4 +1,4 @@
-//! Writers that gather, behind the loop that writes and alone: whole frames go out, in time, and nothing is lost.
+//! Writers that gather, under the loop that writes and alone: whole frames go out, in time, and nothing is lost.
 
 use crate::tests::fakes::{BYTES, Lender};
 use std::alloc::{AllocError, Global};
@@ -12,7 +12,7 @@ use ttrpc_proto::Sink;
 use ttrpc_sync::{GATHER_LIMIT, Gather, PART_LIMIT, PortState, WritePort, write_loop};
 use ttrpc_wire::values::slices::{behind, front};
 
-/// Lets all bytes through, and keeps how many they are, and by how many calls they went.
+/// A writer that lets all bytes through, and counts the bytes and the calls.
 #[derive(Drop)]
 struct Through {
     bytes: Cell<usize>,
@@ -42,8 +42,8 @@ impl Sink for &Through {
     }
 }
 
-/// Writes by one loop for one port, through a writer that gathers. Returns whether each batch went through by one call, and
-/// before the port was asked for more.
+/// Writes with one loop for one port, through a writer that gathers. Returns whether each batch went through in one
+/// call, and before the port was asked for more.
 fn batch_goes_out_whole<X: Wait>(
     rt: &X,
     alloc: Global,
@@ -65,7 +65,7 @@ fn batch_goes_out_whole<X: Wait>(
     Ok(is_through)
 }
 
-/// Where memory is refused, the bytes go through uncut all the same, and the test ends with that error.
+/// If memory is refused, the bytes go through uncut all the same, and the test ends with that error.
 #[test]
 fn what_was_written_is_there_before_more_is_asked(rt: HostRuntime) -> Tested {
     for lent in [1, 7, 4096] {
@@ -85,12 +85,12 @@ fn check_kept<W>(gather: &Gather<W>, count: usize) -> Tested {
     Ok(())
 }
 
-/// Returns whether so many calls went through, and so many bytes by them.
+/// Returns whether this number of calls went through, with this number of bytes.
 fn went(through: &Through, calls: usize, bytes: usize) -> bool {
     through.calls.get() == calls && through.bytes.get() == bytes
 }
 
-/// Returns whether so many pieces of 4096 bytes are taken.
+/// Returns whether `pieces` pieces of 4096 bytes are taken.
 fn takes(gather: &mut Gather<&Through>, pieces: u32) -> bool {
     let mut all = true;
     for _ in 0..pieces {
@@ -99,7 +99,7 @@ fn takes(gather: &mut Gather<&Through>, pieces: u32) -> bool {
     all
 }
 
-/// Fails if something is kept behind a flush.
+/// Fails if bytes are kept after a flush.
 fn check_flush(gather: &mut Gather<&Through>) -> Tested {
     check(gather.flush().is_ok())?;
     check_kept(gather, 0)
@@ -118,8 +118,8 @@ fn a_frame_of_the_greatest_length_is_kept_whole(rt: HostRuntime) -> Tested {
     check(went(&through, 2, 4194315))
 }
 
-/// With a lower limit the front of a long frame leaves before its end is there: eight pages fit into a part of 33,792 bytes,
-/// and what is less than a page behind the last leaves with it.
+/// With a lower limit the front of a long frame leaves before its end is there. Eight pages fit into a part of 33,792
+/// bytes, and the rest after the last page leaves with it.
 #[test]
 fn a_long_frame_leaves_in_parts(rt: HostRuntime) -> Tested {
     let through = Through::none();
@@ -132,7 +132,7 @@ fn a_long_frame_leaves_in_parts(rt: HostRuntime) -> Tested {
     check(went(&through, 2, 66560))
 }
 
-/// Such a write is no frame.
+/// A write of more bytes than a frame may have goes through at once.
 #[test]
 fn more_than_a_frame_goes_through_at_once(rt: HostRuntime) -> Tested {
     let through = Through::none();
@@ -146,7 +146,7 @@ fn more_than_a_frame_goes_through_at_once(rt: HostRuntime) -> Tested {
     check_kept(&gather, 0)
 }
 
-/// Returns whether twenty bytes are gathered that are written in two parts.
+/// Returns whether twenty bytes that are written in two parts are gathered.
 fn gathers(gather: &mut Gather<Receiver>) -> Result<bool, Fail> {
     let first = gather.write(front(BYTES, 9));
     check_kept(gather, 9)?;
@@ -155,8 +155,8 @@ fn gathers(gather: &mut Gather<Receiver>) -> Result<bool, Fail> {
     Ok(matches!(first, Ok(9)) && matches!(second, Ok(11)))
 }
 
-/// Writes twenty bytes in two parts, and flushes until that isn't interrupted. Returns whether what the writer took then and
-/// what is kept are the twenty bytes.
+/// Writes twenty bytes in two parts, and flushes until that isn't interrupted. Returns whether the bytes that the
+/// writer took and those that are kept are the twenty bytes.
 fn nothing_is_lost(alloc: Global, manner: Manner, error: Option<ErrorKind>) -> Result<bool, Fail> {
     let mut gather = Gather::new(alloc, Receiver::new(alloc, manner)?);
     let are_gathered = gathers(&mut gather)?;
@@ -170,7 +170,7 @@ fn nothing_is_lost(alloc: Global, manner: Manner, error: Option<ErrorKind>) -> R
     )
 }
 
-/// Flushes until that isn't interrupted, and says how it failed.
+/// Flushes until that isn't interrupted, and returns how it failed.
 fn flush_again(gather: &mut Gather<Receiver>) -> Option<ErrorKind> {
     for _ in 0..100 {
         match gather.flush() {

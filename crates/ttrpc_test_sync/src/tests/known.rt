@@ -1,4 +1,4 @@
-//! What the contracts of the loops come to where all is known.
+//! The contracts of the loops for known readers, writers and ports.
 ghost use Rattle.std.specs.Prelude.{◌≡◌, ◌⊎◌, ◌++◌, [], map, take, OnOk, Ok, Err};
 ghost use Rattle.std.specs.declared.io.ErrorKind.{ErrorKind as AKind};
 ghost use Rattle.ttrpc_sync.specs.declared.ports.PortState.{PortState as AWord};
@@ -13,15 +13,17 @@ use ttrpc_bench::{Giver, ROOM, Receiver};
 use ttrpc_proto::{Sink, write_part};
 use ttrpc_sync::{Gather, PortState, read_loop, work_loop, write_loop};
 
-/// A slice that is read to its end was taken whole.
+/// Reads a slice. If it is read to its end, it was taken whole.
 fn slice_is_taken<X: Wait>(rt: &X, bytes: &[u8], port: &mut Taker)
-    ensures { port.new.state ≡ AWord.Ended → port.new.taken.items ≡ port.old.taken.items ++ bytes.now }
+    ensures { port.new.state ≡ AWord.Ended
+        → port.new.taken.items ≡ port.old.taken.items ++ bytes.now }
 {
     let mut reader = bytes;
     read_loop(rt, &mut reader, port);
 }
 
-/// What a vector holds in the end is a beginning of what was lent: just the bytes that were reported.
+/// Writes to a vector. The vector then holds exactly the bytes that were reported, which are a beginning of the lent
+/// bytes.
 fn vector_is_written<X: Wait>(rt: &X, writer: &mut Vec<u8>, port: &mut Lender<'_>)
     requires at { port.old.at ≡ 0 }
     requires empty { writer.old.items ≡ [] }
@@ -31,7 +33,7 @@ fn vector_is_written<X: Wait>(rt: &X, writer: &mut Vec<u8>, port: &mut Lender<'_
 }
 
 #[tactic(auto, using(crate::proofs::Answering::moved_alone, crate::proofs::Answering::failed_alone))]
-/// The end that was reported is what the reader's last call answered, and so is a break.
+/// Reads. A reported end is the answer of the reader's last call, and so is a reported break.
 pub fn reader_had_it<X: Wait>(rt: &X, reader: &mut Giver<'_>, port: &mut Taker)
     ensures end { port.new.state ≡ AWord.Ended → reader.new.last ≡ Ok 0 }
     ensures broken { (k : AKind) → port.new.state ≡ AWord.Broke k → reader.new.last ≡ Err k }
@@ -40,7 +42,7 @@ pub fn reader_had_it<X: Wait>(rt: &X, reader: &mut Giver<'_>, port: &mut Taker)
 }
 
 #[tactic(auto, using(crate::proofs::Answering::moved_alone, crate::proofs::Answering::failed_alone))]
-/// A break that was reported is what the writer's last call answered, or that call took nothing.
+/// Writes. A reported break is the answer of the writer's last call, or that call took nothing.
 pub fn writer_had_it<X: Wait>(rt: &X, writer: &mut Receiver, port: &mut Lender<'_>)
     ensures { (k : AKind) → port.new.state ≡ AWord.Broke k
         → (writer.new.last ≡ Err k) ⊎ ((writer.new.last ≡ Ok 0) × (k ≡ AKind.WriteZero)) }
@@ -48,15 +50,17 @@ pub fn writer_had_it<X: Wait>(rt: &X, writer: &mut Receiver, port: &mut Lender<'
     write_loop(rt, writer, port);
 }
 
-/// What is written to a gathering writer and flushed stands in its vector, behind what stood there and what was kept.
+/// Writes to a gathering writer, and flushes. The bytes are then at the end of its vector, after those that it had and
+/// those that were kept.
 fn vector_gathers(gather: &mut Gather<Vec<u8>>, bytes: &[u8]) -> io::Result<()>
-    ensures { OnOk result (gather.new.writer.items ≡ (gather.old.writer.items ++ gather.old.kept) ++ bytes.now) }
+    ensures { OnOk result
+        (gather.new.writer.items ≡ (gather.old.writer.items ++ gather.old.kept) ++ bytes.now) }
 {
     write_part(gather, bytes)?;
     gather.flush()
 }
 
-/// What was reported stands under the keys of the jobs that were taken, in order.
+/// Works. The reports have the keys of the jobs that were taken, in order.
 pub fn jobs_are_reported<'r, 'a, X: Wait + Abort>(
     rt: &X,
     queue: &mut Queue<'r, 'a, X>,
@@ -65,7 +69,8 @@ pub fn jobs_are_reported<'r, 'a, X: Wait + Abort>(
 )
     requires taken { queue.old.taken.items ≡ [] }
     requires reported { queue.old.reported.items ≡ [] }
-    ensures { map (λ report. report.0) queue.new.reported.items ≡ map (λ job. job.0) queue.new.taken.items }
+    ensures { map (λ report. report.0) queue.new.reported.items
+        ≡ map (λ job. job.0) queue.new.taken.items }
 {
     work_loop(rt, queue, handler, gate);
 }

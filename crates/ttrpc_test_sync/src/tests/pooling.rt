@@ -1,11 +1,11 @@
-//! The pool of workers, over rows of calls and their answers, and behind the gate of a worker.
+//! The pool of workers, over rows of calls and their answers, and under the gate of a worker.
 
 use crate::tests::pooling::Call::*;
 use crate::tests::workers::{Queue, Refuser, Seen};
 use ttrpc_bench::checks::{Tested, check, check_row};
 use ttrpc_sync::{Gate, PoolCore, PortState, work_loop};
 
-/// A call of a pool, with its answer.
+/// A call of a pool, with its expected answer.
 #[derive(Clone, Copy)]
 enum Call {
     Starts(usize),
@@ -14,13 +14,13 @@ enum Call {
     Waiting(usize),
 }
 
-/// A pool of these limits, `default`, `min` and `max`, and calls of it one after the other.
+/// A pool with these limits, `default`, `min` and `max`, and calls of it one after the other.
 struct Pooling {
     limits: (usize, usize, usize),
     calls: &'static [Call],
 }
 
-/// Makes one call, and returns whether it answered so.
+/// Makes one call, and returns whether its answer was as expected.
 fn answers(pool: &mut PoolCore, call: Call) -> bool {
     match call {
         Call::Starts(count) => pool.to_start() == count,
@@ -30,7 +30,7 @@ fn answers(pool: &mut PoolCore, call: Call) -> bool {
     }
 }
 
-/// Returns whether a pool of the row's limits answers so.
+/// Returns whether a pool with the row's limits gives the expected answers.
 fn pools(row: &Pooling) -> bool {
     let (default, min, max) = row.limits;
     let mut pool = PoolCore::new(default, min, max);
@@ -99,7 +99,7 @@ fn workers_wait_within_limits() -> Tested {
     Ok(())
 }
 
-/// The gate of a pool, which counts how many workers were to be started.
+/// The gate of a pool, which counts the workers that were to be started.
 #[derive(Drop)]
 struct PoolGate {
     pool: PoolCore,
@@ -122,7 +122,7 @@ impl Gate for PoolGate {
     }
 }
 
-/// The one worker of a pool leaves it for each of two jobs, and where no more come. Nobody is left waiting each time.
+/// The one worker of a pool leaves it for each of two jobs, and when no more come. Each time no worker is left waiting.
 #[test]
 fn worker_leaves_its_pool_each_time(rt: HostRuntime) -> Tested {
     let seen = Seen::nothing();

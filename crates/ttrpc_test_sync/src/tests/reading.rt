@@ -1,4 +1,4 @@
-//! The loop that reads, over rows of a reader, a port, and what comes of them.
+//! The loop that reads, over rows of a reader, a port, and the results.
 
 use crate::tests::fakes::{BYTES, Taker, long_bytes};
 use crate::tests::known::reader_had_it;
@@ -11,7 +11,8 @@ use ttrpc_bench::{AT_ONCE, Giver, Manner, ROOM};
 use ttrpc_sync::PortState;
 use ttrpc_wire::values::slices::front;
 
-/// Readers of these bytes that give so many a call, and ports that take so many of a piece: each is read to each.
+/// Readers of these bytes that give one of these numbers a call, and ports that take one of these numbers of a piece.
+/// Each reader is read to each port.
 #[derive(Clone, Copy)]
 struct Reading<'a> {
     name: &'static str,
@@ -20,16 +21,16 @@ struct Reading<'a> {
     manner: Manner,
     wanted: &'static [usize],
     rests: bool,
-    /// How many bytes a port wants, and how many reads.
+    /// The number of bytes that a port wants, and the number of reads.
     room: usize,
     reads: usize,
-    /// How many it took, and how many weren't read.
+    /// The number of bytes that it took, and the number that weren't read.
     taken: usize,
     left: usize,
     state: PortState,
 }
 
-/// All twenty are read, and taken.
+/// All twenty bytes are read and taken.
 const ALL: Reading<'static> = Reading {
     name: "twenty bytes",
     bytes: BYTES,
@@ -44,7 +45,7 @@ const ALL: Reading<'static> = Reading {
     state: PortState::Ended,
 };
 
-/// Eight are read at once by a port that wants no more before their end.
+/// Eight bytes are read at once by a port that wants no more before their end.
 const STOPPED: Reading<'static> = Reading {
     name: "a port that wants no more",
     given: &[8],
@@ -53,7 +54,7 @@ const STOPPED: Reading<'static> = Reading {
     ..ALL
 };
 
-/// Reads one reader to one port, and returns whether what comes of it is what the row says.
+/// Reads one reader to one port, and returns whether the result is that of the row.
 fn reads_once<X: Wait>(
     rt: &X,
     alloc: Global,
@@ -77,7 +78,7 @@ fn reads_once<X: Wait>(
     )
 }
 
-/// Reads each reader of each row to each of the row's ports, and checks what comes of it.
+/// Reads each reader of each row to each of the row's ports, and checks the result.
 fn check_reads<X: Wait>(rt: &X, alloc: Global, rows: &[Reading<'_>]) -> Tested {
     for row in rows {
         for given in row.given {
@@ -202,7 +203,7 @@ fn more_than_a_piece_is_handed_on(rt: HostRuntime) -> Tested {
     check_reads(&rt, rt.alloc(), &[row])
 }
 
-/// Behind each front of the bytes the reader fails.
+/// The reader fails after each front of the bytes.
 #[test]
 fn a_failing_read_is_a_break(rt: HostRuntime) -> Tested {
     for count in 0..21 {

@@ -8,8 +8,8 @@ use std::cell::Cell;
 use std::process::Abort;
 use ttrpc_sync::{Gate, Handler, JobPort, PortState};
 
-/// What is seen of a worker: whether it is inside the gate, how many jobs it asked for outside, and how many requests
-/// were handled, in all and inside.
+/// The observations of a worker: whether it is inside the gate, the number of jobs that it took outside, and the
+/// numbers of requests that were handled, in all and inside.
 #[derive(Drop)]
 pub struct Seen {
     inside: Cell<bool>,
@@ -47,7 +47,7 @@ impl Seen {
     }
 }
 
-/// Refuses each number from this one on, by the number itself.
+/// A handler that refuses each number from this one on, with the number itself.
 #[derive(Drop)]
 pub struct Refuser<'a> {
     pub seen: &'a Seen,
@@ -59,7 +59,8 @@ impl Handler for Refuser<'_> {
 
     type Outcome = Result<(), u8>;
 
-    ghost gives = { λ h request outcome. outcome ≡ (if nat_lt request h.from then Ok tt else Err request) };
+    ghost gives = { λ h request outcome. outcome
+        ≡ (if nat_lt request h.from then Ok tt else Err request) };
 
     fn handle(&self, request: u8) -> Result<(), u8> {
         self.seen.handles();
@@ -71,7 +72,7 @@ impl Handler for Refuser<'_> {
     }
 }
 
-/// Gives these requests, under the keys 1, 3, 5 and so on. It ends the test where it finds no memory.
+/// A queue of these requests, with the keys 1, 3, 5 and so on. It aborts the test if memory is refused.
 #[derive(Drop)]
 pub struct Queue<'r, 'a, X> {
     pub rt: &'r X,
@@ -126,7 +127,7 @@ impl<'a, X: Abort> JobPort<Refuser<'a>> for Queue<'_, 'a, X> {
     }
 }
 
-/// Lets a worker in so many times. It ends the test where it finds no memory.
+/// A gate that lets a worker in this number of times. It aborts the test if memory is refused.
 #[derive(Drop)]
 pub struct Turnstile<'r, 'a, X> {
     pub rt: &'r X,

@@ -1,4 +1,4 @@
-//! The loop of a worker, over rows of jobs, a gate, and what comes of them.
+//! The loop of a worker, over rows of jobs, a gate, and the results.
 
 use crate::passes::Pass;
 use crate::tests::known::jobs_are_reported;
@@ -10,15 +10,15 @@ use std::test::Fail;
 use ttrpc_bench::checks::{Tested, check_named};
 use ttrpc_sync::PortState;
 
-/// More than any of the tests needs, so that no queue and no gate wants memory.
+/// More room than any of the tests needs, so that no queue and no gate takes more memory.
 const ROOM: usize = 100;
 
-/// Jobs that are asked for by a worker whom the gate lets in so many times. Numbers from 7 on are refused.
+/// Jobs that are taken by a worker that the gate lets in `turns` times. Numbers from 7 on are refused.
 struct Working {
     name: &'static str,
     requests: &'static [u8],
     turns: usize,
-    /// What is reported, under which keys.
+    /// The reports, with their keys.
     reported: &'static [(u32, Result<(), u8>)],
     passes: &'static [Pass],
     state: PortState,
@@ -77,14 +77,14 @@ const WORKINGS: &[Working] = &[
     },
 ];
 
-/// Returns whether each request was handled once, outside the gate, and each job was asked for inside.
+/// Returns whether each request was handled once, outside the gate, and each job was taken inside.
 fn stands_outside(seen: &Seen, row: &Working) -> bool {
     seen.handled.get() == row.reported.len()
         && seen.handled_inside.get() == 0
         && seen.taken_outside.get() == 0
 }
 
-/// Returns whether what comes of a worker is what the row says.
+/// Returns whether the results of a worker are those of the row.
 fn works<X: Wait + Abort>(rt: &X, alloc: Global, row: &Working) -> Result<bool, Fail> {
     let seen = Seen::nothing();
     let mut queue = Queue {

@@ -1,4 +1,4 @@
-//! The loop that writes, over rows of a port, a writer, and what comes of them.
+//! The loop that writes, over rows of a port, a writer, and the results.
 
 use crate::tests::fakes::{BYTES, Lender, long_bytes};
 use crate::tests::known::writer_had_it;
@@ -11,23 +11,24 @@ use ttrpc_bench::{AT_ONCE, Manner, ROOM, Receiver};
 use ttrpc_sync::PortState;
 use ttrpc_wire::values::slices::front;
 
-/// Ports that lend so many of these bytes at once, and writers that take so many a call: each writes for each.
+/// Ports that lend one of these numbers of bytes at a time, and writers that take one of these numbers a call. Each
+/// writer writes for each port.
 #[derive(Clone, Copy)]
 struct Writing<'a> {
     name: &'static str,
     bytes: &'a [u8],
     lent: &'static [usize],
-    /// How many bytes come at a time.
+    /// The number of bytes that come at a time.
     batch: usize,
     taken: &'static [usize],
     manner: Manner,
-    /// How many were written, and how often the port was asked for more.
+    /// The number of bytes that were written, and the number of times that the port was asked for more.
     written: usize,
     asked: usize,
     state: PortState,
 }
 
-/// All twenty come at once, and are written.
+/// All twenty bytes come at once, and are written.
 const ALL: Writing<'static> = Writing {
     name: "twenty bytes",
     bytes: BYTES,
@@ -40,14 +41,14 @@ const ALL: Writing<'static> = Writing {
     state: PortState::Stopped,
 };
 
-/// They come by four calls, and the fifth says that there are no more.
+/// The bytes come in four batches, and the fifth call reports that there are no more.
 const IN_BATCHES: Writing<'static> = Writing {
     batch: 6,
     asked: 5,
     ..ALL
 };
 
-/// Writes by one writer for one port, and returns whether what comes of it is what the row says.
+/// Writes with one writer for one port, and returns whether the result is that of the row.
 fn writes_once<X: Wait>(
     rt: &X,
     alloc: Global,
@@ -70,7 +71,7 @@ fn writes_once<X: Wait>(
     )
 }
 
-/// Writes by each writer of each row for each of the row's ports, and checks what comes of it.
+/// Writes with each writer of each row for each of the row's ports, and checks the result.
 fn check_writes<X: Wait>(rt: &X, alloc: Global, rows: &[Writing<'_>]) -> Tested {
     for row in rows {
         for lent in row.lent {
@@ -133,7 +134,7 @@ fn more_than_a_piece_is_written(rt: HostRuntime) -> Tested {
     check_writes(&rt, rt.alloc(), &[row])
 }
 
-/// Checks that a writer that fails or takes no more after so many bytes has written and reported those.
+/// Checks that a writer that fails or takes no more after `count` bytes has written and reported those.
 fn check_break<X: Wait>(rt: &X, alloc: Global, count: usize, behind: Option<ErrorKind>) -> Tested {
     let row = Writing {
         name: "a writer that fails",
@@ -156,7 +157,7 @@ fn a_failing_write_is_a_break(rt: HostRuntime) -> Tested {
     Ok(())
 }
 
-/// The bytes come by four calls for more, and the fifth ends the loop. A flush stands before each of the five.
+/// The bytes come by four calls for more, and the fifth ends the loop. There is a flush before each of the five.
 #[test]
 fn a_failing_flush_is_a_break(rt: HostRuntime) -> Tested {
     for (flushes, written) in [(0, 0), (1, 6), (2, 12), (3, 18), (4, 20)] {

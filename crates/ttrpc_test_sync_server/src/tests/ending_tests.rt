@@ -1,4 +1,4 @@
-//! Connections that end, or stall, and what that is to others.
+//! Connections that end, or stall, and their effect on others.
 use crate::tests::Tested;
 use std::alloc::Global;
 use std::sync::Arc;
@@ -19,19 +19,19 @@ use ttrpc_sync_server::NoHook;
 use ttrpc_transport::{PipeConnection, PipeListener};
 use ttrpc_wire::values::slices::front;
 
-/// A request of `Echo` of `demo.Echo` under id 1, with the payload `2a`.
+/// A request of `Echo` of `demo.Echo` with the id 1 and the payload `2a`.
 const ASKED: &[u8] = b"\0\0\0\x14\0\0\0\x01\x01\0\x0a\x09demo.Echo\x12\x04Echo\x1a\x01\x2a";
 
-/// A response under id 1 of which the last byte is missing.
+/// A response with the id 1, without its last byte.
 const CUT_ANSWER: &[u8] = b"\0\0\0\x05\0\0\0\x01\x02\0\x0a\0\x12\x01";
 
-/// Waits until the server has so many connections.
+/// Waits until the server has `count` connections.
 fn has_connections<R: Machine>(rt: &R, site: &Site<R, NoHook>, count: usize) -> Answered<()> {
     let came = comes(rt, || site.server.connection_count() == count);
     check(rt.alloc(), came, "another count of connections")
 }
 
-/// A request of `Echo` with a megabyte.
+/// Returns a request of `Echo` with a megabyte.
 fn much(alloc: Global) -> Answered<Vec<u8>> {
     let mut request = Vec::from_slice(alloc, b"\0\x10\0\x15\0\0\0\x01\x01\0")?;
     request.extend_from_slice(b"\x0a\x09demo.Echo\x12\x04Echo\x1a\x80\x80\x40")?;
@@ -51,7 +51,7 @@ fn asks_much(alloc: Global, connection: &PipeConnection) {
     }
 }
 
-/// A new client of a server that has another connection, which is answered a hundred times.
+/// Connects a client to a server that has another connection, and makes a hundred calls that are answered.
 fn served_beside<R: Machine + 'static>(rt: &R, site: &Site<R, NoHook>) -> Answered<PlainClient<R>> {
     let client = client(rt, site.address.as_str())?;
     answers_often(rt, &client, 100)?;
@@ -59,7 +59,7 @@ fn served_beside<R: Machine + 'static>(rt: &R, site: &Site<R, NoHook>) -> Answer
     Ok(client)
 }
 
-/// A peer that reads no answers keeps no other connection from being served, and its own ends with it.
+/// A peer that reads no answers keeps no other connection from being served, and its connection ends when it is closed.
 #[test]
 fn a_stalled_peer_is_alone_with_that(rt: HostRuntime) -> Tested {
     let site = serving(&rt)?;
@@ -95,7 +95,8 @@ fn waits_for_its_stop<R: Machine>(rt: &R, site: &Site<R, NoHook>) -> Result<bool
     Ok(!early)
 }
 
-/// The `wait` of a server returns once its stopper asks, and not before. It serves until it is shut down.
+/// The `wait` of a server returns after its stopper asks, and not before. It serves until it is shut down.
+// Seen to fail if `wait` returns at once. Should fail if a stopper is another server's.
 #[test]
 fn a_server_waits_for_its_stop(rt: HostRuntime) -> Tested {
     let (site, client) = serving_one(&rt)?;
@@ -106,7 +107,7 @@ fn a_server_waits_for_its_stop(rt: HostRuntime) -> Tested {
     Ok(())
 }
 
-/// The server goes away inside an answer.
+/// Goes away inside an answer, as a server.
 fn dies_inside_an_answer(listener: &PipeListener) -> Tested {
     let accepted = listener.accept()?.ok_or("closed")?;
     let mut buffer = [0; 64];
@@ -115,7 +116,7 @@ fn dies_inside_an_answer(listener: &PipeListener) -> Tested {
     Ok(accepted.close()?)
 }
 
-/// What a call comes to whose server goes away inside the answer.
+/// Returns the result of a call if its server goes away inside the answer.
 fn cut_call<R: Machine>(
     rt: &R,
     client: &PlainClient<R>,
@@ -130,10 +131,10 @@ fn cut_call<R: Machine>(
     Ok(cut)
 }
 
-/// What such a call is told.
+/// The error of such a call.
 const INSIDE: &str = "socket err: socket disconnected inside a frame";
 
-/// Each later call is told the same.
+/// Each later call gets the same error.
 #[test]
 fn a_client_whose_server_dies_inside_an_answer_is_told(rt: HostRuntime) -> Tested {
     let (listener, address) = listening(&rt)?;
@@ -147,7 +148,7 @@ fn fails_twice<R: Host>(rt: &R, client: &PlainClient<R>) -> bool {
     call(rt, client, "Echo", b"2").is_err() && call(rt, client, "Echo", b"2").is_err()
 }
 
-/// A connection that ended while nobody read it is told to the next call.
+/// If a connection ended while nobody read it, the next call fails.
 #[test]
 fn a_server_that_goes_away_unseen_is_told(rt: HostRuntime) -> Tested {
     let (site, client) = serving_one(&rt)?;
@@ -157,7 +158,7 @@ fn a_server_that_goes_away_unseen_is_told(rt: HostRuntime) -> Tested {
     Ok(())
 }
 
-/// A second connection goes away inside a request, and is let go.
+/// Opens a second connection, goes away inside a request, and waits until the server has closed that connection.
 fn dies_inside_a_request<R: Machine>(rt: &R, site: &Site<R, NoHook>) -> Answered<()> {
     let dying = connection(rt, site.address.as_str())?;
     write_all(&dying, ASKED.split_at(12).0)?;
@@ -187,7 +188,7 @@ fn an_error_of_a_handler_ends_its_connection(rt: HostRuntime) -> Tested {
     Ok(())
 }
 
-/// A server that listens no more, and the client that it goes on serving. Nobody else comes to it.
+/// Returns a server that listens no more, and the client that it still serves. No other client can connect.
 fn stopped<R: Machine + 'static>(rt: &R) -> Answered<(Site<R, NoHook>, PlainClient<R>)> {
     let Site {
         server,
@@ -210,7 +211,7 @@ fn stopped<R: Machine + 'static>(rt: &R) -> Answered<(Site<R, NoHook>, PlainClie
     Ok((site, kept))
 }
 
-/// The server listens again.
+/// Listens again with the server.
 fn listen_again<R: Machine + 'static>(rt: &R, site: Site<R, NoHook>) -> Answered<Site<R, NoHook>> {
     let Site { server, board, .. } = site;
     let mut server = server.bind("tcp://127.0.0.1:0", true)?;
@@ -223,7 +224,7 @@ fn listen_again<R: Machine + 'static>(rt: &R, site: Site<R, NoHook>) -> Answered
     })
 }
 
-/// A server that listens no more serves the connections that it has, and accepts others once it starts again.
+/// A server that listens no more serves its connections, and accepts others after it listens again.
 #[test]
 fn stop_listen_keeps_connections(rt: HostRuntime) -> Tested {
     let (site, _kept) = stopped(&rt)?;
@@ -234,10 +235,10 @@ fn stop_listen_keeps_connections(rt: HostRuntime) -> Tested {
     Ok(())
 }
 
-/// How many calls are in flight as a server is shut down.
+/// The number of calls in flight when a server is shut down.
 const IN_FLIGHT: u32 = 10;
 
-/// A bare connection with so many handlers under way, each of which answers 0.4 seconds after it was told of the end.
+/// Opens a bare connection with `IN_FLIGHT` running handlers. Each answers 0.4 seconds after it sees the end.
 fn in_flight<R: Machine>(rt: &R, site: &Site<R, NoHook>) -> Answered<PipeConnection> {
     let bare = connection(rt, site.address.as_str())?;
     let asked = requests(rt.alloc(), "Lasts", IN_FLIGHT)?;
@@ -251,7 +252,7 @@ fn in_flight<R: Machine>(rt: &R, site: &Site<R, NoHook>) -> Answered<PipeConnect
     Ok(bare)
 }
 
-/// Shuts the server down. Returns whether then no handler runs, and nobody can connect.
+/// Shuts the server down. Returns whether no handler runs then, and no connection is accepted.
 fn is_shut_down<R: Machine + 'static>(rt: &R, site: Site<R, NoHook>) -> bool {
     let Site {
         server,
@@ -262,7 +263,8 @@ fn is_shut_down<R: Machine + 'static>(rt: &R, site: Site<R, NoHook>) -> bool {
     board.waiting.load(Ordering::SeqCst) == 0 && connection(rt, address.as_str()).is_err()
 }
 
-/// A shutdown with calls in flight cancels their handlers, and each of them is answered.
+/// A shutdown with calls in flight cancels their handlers, and each call is answered.
+// Seen to fail if a shutdown closes each socket at once. Should fail if a shutdown ends no connection.
 #[test]
 fn a_shutdown_answers_calls_in_flight(rt: HostRuntime) -> Tested {
     let site = serving(&rt)?;
@@ -273,14 +275,14 @@ fn a_shutdown_answers_calls_in_flight(rt: HostRuntime) -> Tested {
     Ok(())
 }
 
-/// The lengths of payloads and how many calls with them a peer makes that reads no answer: one handler that writes its answer
-/// itself, and several whose answers are queued.
+/// The lengths of payloads, and the numbers of calls of a peer that reads no answer: one handler that writes its answer
+/// itself, and several with queued answers.
 const UNREAD: &[(usize, u32)] = &[(500000, 1), (100000, 16)];
 
-/// Where a server listens whose sockets keep less than half a megabyte.
+/// The address of a server with sockets that keep less than half a megabyte.
 const STALLED: &str = "unix://stalled.sock";
 
-/// A server whose connections stay open for 0.2 seconds after their last answer.
+/// Starts a server with connections that stay open for 0.2 seconds after their last answer.
 fn closing_soon<R: Machine + 'static>(rt: &R) -> Answered<Site<R, NoHook>> {
     let _ = fs::remove_file(rt, "stalled.sock");
     let board = new_board(rt)?;
@@ -295,7 +297,7 @@ fn closing_soon<R: Machine + 'static>(rt: &R) -> Answered<Site<R, NoHook>> {
     })
 }
 
-/// A peer that makes these calls, each of which has begun, and reads no answer.
+/// Opens a connection that makes these calls, waits until each has begun, and reads no answer.
 fn unread<R: Machine>(
     rt: &R,
     site: &Site<R, NoHook>,
@@ -319,7 +321,8 @@ fn is_soon_shut_down<R: Machine + 'static>(rt: &R, site: Site<R, NoHook>) -> Res
     Ok(start.elapsed(rt)? < Duration::from_secs(20))
 }
 
-/// A peer that reads no answer holds a shutdown no longer than the close limit says.
+/// A peer that reads no answer holds a shutdown no longer than the close limit.
+// Seen to fail if a shutdown waits for a peer that reads nothing.
 #[test]
 fn a_shutdown_waits_for_no_stalled_peer(rt: HostRuntime) -> Tested {
     for &calls in UNREAD {
@@ -330,8 +333,8 @@ fn a_shutdown_waits_for_no_stalled_peer(rt: HostRuntime) -> Tested {
     Ok(fs::remove_file(&rt, "stalled.sock")?)
 }
 
-/// How many bytes of a request come, in pieces of which length, one each 60 milliseconds, and whether the connection lives after
-/// that at a server at which a peer may pause inside a frame for 200.
+/// The number of bytes of a request that come, the length of the pieces, which come every 60 milliseconds, and whether
+/// the connection lives after that. The peer may pause inside a frame for 200 milliseconds.
 const PAUSES: &[(usize, usize, bool)] = &[
     (0, 30, true),
     (5, 30, false),
@@ -342,7 +345,7 @@ const PAUSES: &[(usize, usize, bool)] = &[
     (29, 2, false),
 ];
 
-/// A server at which a peer may pause inside a frame for 0.2 seconds.
+/// Starts a server with peers that may pause inside a frame for 0.2 seconds.
 fn impatient<R: Machine + 'static>(rt: &R) -> Answered<Site<R, NoHook>> {
     let board = new_board(rt)?;
     let server = unbound(rt, &board)?
@@ -365,7 +368,7 @@ fn asks_slowly<R: Machine>(
     Ok(())
 }
 
-/// Returns whether the connection of a peer that asks so is still there a second later.
+/// Returns whether the connection of such a peer is still there a second later.
 fn lives_behind<R: Machine>(
     rt: &R,
     site: &Site<R, NoHook>,
@@ -379,7 +382,8 @@ fn lives_behind<R: Machine>(
     Ok(site.server.connection_count() == 1)
 }
 
-/// A peer that pauses inside a frame for longer than it may is let go, and no other is.
+/// The connection of a peer that pauses inside a frame for too long is closed, and no other is.
+// Seen to fail if no pause is ever measured.
 #[test]
 fn a_peer_may_pause_between_frames(rt: HostRuntime) -> Tested {
     for &(length, size, lives) in PAUSES {
@@ -390,7 +394,7 @@ fn a_peer_may_pause_between_frames(rt: HostRuntime) -> Tested {
     Ok(())
 }
 
-/// So many clients of the server at this address.
+/// Connects `count` clients to the server at this address.
 fn many_clients<R: Machine + 'static>(
     rt: &R,
     address: &str,
@@ -403,7 +407,7 @@ fn many_clients<R: Machine + 'static>(
     Ok(clients)
 }
 
-/// Each of these clients is answered.
+/// Checks that each of these clients is answered.
 fn each_is_answered<R: Host>(rt: &R, clients: &[PlainClient<R>]) -> Answered<()> {
     for client in clients {
         answers(rt, client, "Echo", b"2", b"2")?;
@@ -411,7 +415,8 @@ fn each_is_answered<R: Host>(rt: &R, clients: &[PlainClient<R>]) -> Answered<()>
     Ok(())
 }
 
-/// Two hundred connections are open at once, each with a call. As their clients are dropped, all are let go.
+/// Two hundred connections are open at the same time, each with a call. When their clients are dropped, all are closed.
+// Should fail if connections aren't counted; the last client closes no socket.
 #[test]
 fn many_connections_are_open_at_once(rt: HostRuntime) -> Tested {
     let site = serving(&rt)?;

@@ -1,4 +1,4 @@
-//! Hooks of servers and clients, and connections that aren't accepted at once.
+//! Hooks of servers and clients, and accepts that fail at first.
 use crate::tests::Tested;
 use std::alloc::Global;
 use std::io::ErrorKind;
@@ -19,7 +19,7 @@ use ttrpc_sync_client::Client;
 use ttrpc_sync_server::accept::{Stop, next_connection};
 use ttrpc_sync_server::{NoHook, NoWatch};
 
-/// Moments at which a hook begins and ends, and whether that is in time.
+/// The moments at which a hook begins and ends, and whether that is in time.
 const MOMENTS: &[(u64, u64, bool)] = &[
     (0, 29999999999, true),
     (0, 30000000000, false),
@@ -31,7 +31,7 @@ fn is_timeout<T>(admitted: &Result<T, HookError>) -> bool {
     matches!(admitted, Err(HookError::Timeout))
 }
 
-/// Returns whether a hook that begins and ends at these moments is in time, or not, as the row says.
+/// Returns whether a hook that begins and ends at these moments is in time, or not, as the row expects.
 fn is_as_stated(alloc: Global, row: &(u64, u64, bool)) -> bool {
     let &(first, second, in_time) = row;
     let clock = Moments {
@@ -42,6 +42,7 @@ fn is_as_stated(alloc: Global, row: &(u64, u64, bool)) -> bool {
     is_timeout(&admitted) != in_time && admitted.is_ok() == in_time
 }
 
+// Should fail if each hook is late.
 #[test]
 fn a_hook_has_thirty_seconds(rt: HostRuntime) -> Tested {
     for row in MOMENTS {
@@ -50,7 +51,7 @@ fn a_hook_has_thirty_seconds(rt: HostRuntime) -> Tested {
     Ok(())
 }
 
-/// A client whose hook refuses its connection to the server at this address isn't made.
+/// Checks that no client is made if its hook rejects its connection to the server at this address.
 fn client_refuses<R: Machine + 'static>(rt: &R, address: &str) -> Answered<()> {
     let bare = connection(rt, address)?;
     is_told(
@@ -60,7 +61,7 @@ fn client_refuses<R: Machine + 'static>(rt: &R, address: &str) -> Answered<()> {
     )
 }
 
-/// A connection that the hook refuses is closed, and a client whose hook refuses isn't made.
+/// A connection that the hook rejects is closed, and a client isn't made if its hook rejects.
 #[test]
 fn a_refused_connection_is_closed(rt: HostRuntime) -> Tested {
     let site = hooked(&rt, Rejects {})?;
@@ -70,7 +71,7 @@ fn a_refused_connection_is_closed(rt: HostRuntime) -> Tested {
     Ok(())
 }
 
-/// A client of the server at this address, which stamps.
+/// Connects a client that stamps to the server at this address.
 fn stamping_client<R: Machine + 'static>(
     rt: &R,
     address: &str,
@@ -82,14 +83,14 @@ fn stamping_client<R: Machine + 'static>(
     Ok(Client::with_hook(rt.clone()?, bare, &stamps)?)
 }
 
-/// Returns whether each side knows its connection by the name that its own hook gave.
+/// Returns whether each side has the name for its connection that its own hook gave.
 fn names_are_known<R: Host>(rt: &R, client: &Client<R, StampOut, StampIn>) -> Answered<bool> {
     answers(rt, client, "Name", b"", b"of the server")?;
     let name: Option<&String> = client.connection_data().get_typed("name");
     Ok(matches!(name, Some(name) if name.as_str() == "of the client"))
 }
 
-/// Both sides stamp what they send, and each knows its connection by the name that its own hook gave.
+/// Both sides stamp their payloads, and each has the name for its connection that its own hook gave.
 #[test]
 fn hooks_give_halves_and_names(rt: HostRuntime) -> Tested {
     let stamps = Stamps {
@@ -103,7 +104,7 @@ fn hooks_give_halves_and_names(rt: HostRuntime) -> Tested {
     Ok(())
 }
 
-/// How often it fails to accept, of which kind, and whether that is tried again at once.
+/// The number of accepts that fail, their kind, and whether the next try comes at once.
 const FAULTS: &[(u64, ErrorKind, bool)] = &[
     (3, ErrorKind::Other, false),
     (3, ErrorKind::OutOfMemory, false),
@@ -111,7 +112,8 @@ const FAULTS: &[(u64, ErrorKind, bool)] = &[
     (3, ErrorKind::Interrupted, true),
 ];
 
-/// Returns whether such faults are tried again after the interval of 10 milliseconds, or at once, until none are left.
+/// Returns whether accepts that fail are tried again after the interval of 10 milliseconds, or at once, until no failure
+/// is left.
 fn is_tried_again<R: Clock + Wait>(rt: &R, row: &(u64, ErrorKind, bool)) -> Result<bool, Fail> {
     let &(count, kind, at_once) = row;
     let failing = Failing {
@@ -120,7 +122,7 @@ fn is_tried_again<R: Clock + Wait>(rt: &R, row: &(u64, ErrorKind, bool)) -> Resu
     };
     let interval = Duration::from_millis(10);
     let stop = Stop::new();
-    // A connection that had ended before is no reason to look sooner.
+    // The end of an earlier connection is no reason to look sooner.
     stop.note_end(rt);
     let start = Instant::now(rt)?;
     let next = next_connection(rt, &failing, &stop, &NoWatch {}, interval);
@@ -129,7 +131,8 @@ fn is_tried_again<R: Clock + Wait>(rt: &R, row: &(u64, ErrorKind, bool)) -> Resu
     Ok(next.is_none() && in_time && failing.left.into_inner() == 0)
 }
 
-/// Where the system gives no connection, a server tries again after its interval.
+/// If the system gives no connection, a server tries again after its interval.
+// Should fail if a failed accept ends the server, or is tried again at once.
 #[test]
 fn accept_is_tried_again(rt: HostRuntime) -> Tested {
     for row in FAULTS {

@@ -1,4 +1,4 @@
-//! What a server refuses by its settings.
+//! The settings that a server refuses.
 use crate::tests::Tested;
 use std::alloc::Global;
 use std::collections::BTreeMap;
@@ -11,7 +11,7 @@ use ttrpc_proto::Result as Answered;
 use ttrpc_sync::{Host, Runtime};
 use ttrpc_sync_server::{NoHook, Server};
 
-/// Counts of workers, default, least and greatest, and how the start of a server without an address is refused.
+/// Counts of workers, default, least and greatest, and the error of the start of a server without an address.
 const STARTS: &[(usize, usize, usize, &str)] = &[
     (
         5,
@@ -28,7 +28,7 @@ const STARTS: &[(usize, usize, usize, &str)] = &[
     (3, 1, 5, "ttrpc err: ttrpc-rust not bind"),
 ];
 
-/// The start of a server with these counts and without an address is refused so.
+/// Checks that the start of a server with these counts and without an address is refused with the row's text.
 fn start_is_refused<R: Runtime>(
     rt: &R,
     board: &Arc<Board, Global>,
@@ -54,14 +54,14 @@ fn counts_and_an_address_are_wanted(rt: HostRuntime) -> Tested {
 /// A server of the tests.
 type Tried<R> = Server<R, Method<R>, NoHook>;
 
-/// A server that has started is refused another start.
+/// Checks that a server that has started refuses another start, and returns it.
 fn started_once<R: Machine + 'static>(rt: &R) -> Answered<Tried<R>> {
     let mut server = serving(rt)?.server;
     is_told(rt, server.start(), "ttrpc err: server is already listening")?;
     Ok(server)
 }
 
-/// The server listens no more, and then at another address.
+/// Stops listening, and then listens at another address.
 fn listening_elsewhere<R: Machine + 'static>(server: Tried<R>) -> Answered<Tried<R>> {
     let mut server = server
         .stop_listen()
@@ -71,8 +71,7 @@ fn listening_elsewhere<R: Machine + 'static>(server: Tried<R>) -> Answered<Tried
     Ok(server)
 }
 
-/// Once it has started, a server is refused another start, another address and other services, also where it listens no
-/// more and has another address.
+/// After it has started, a server refuses another start. After it listens at another address, it refuses a further one.
 #[test]
 fn a_server_starts_once_at_a_time(rt: HostRuntime) -> Tested {
     let server = listening_elsewhere(started_once(&rt)?)?;
@@ -93,7 +92,7 @@ fn services_are_fixed_by_a_start(rt: HostRuntime) -> Tested {
     )?)
 }
 
-/// A service of one method, which echoes under this path.
+/// Returns a service with one method, which echoes, at this path.
 fn echo_at<R: Host>(
     rt: &R,
     board: &Arc<Board, Global>,
@@ -104,21 +103,21 @@ fn echo_at<R: Host>(
     Ok(methods)
 }
 
-/// A server where a service without methods was registered, and then one of another echo.
+/// Returns a server that also has a service without methods and a service with another echo.
 fn with_others<R: Machine + 'static>(rt: &R, board: &Arc<Board, Global>) -> Answered<Tried<R>> {
     let server = unbound(rt, board)?.register_service(BTreeMap::new(rt.alloc()))?;
     let others = echo_at(rt, board, "/demo.Echo/Other")?;
     Ok(server.register_service(others)?)
 }
 
-/// The same, which listens.
+/// Starts such a server.
 fn serving_others<R: Machine + 'static>(rt: &R) -> Answered<Site<R, NoHook>> {
     let board = Arc::new(rt.alloc(), Board::new(rt.alloc()))?;
     let server = with_others(rt, &board)?.bind("tcp://127.0.0.1:0", true)?;
     started(rt, server, board)
 }
 
-/// Where services are registered twice, both stand.
+/// If services are registered twice, the server has both.
 #[test]
 fn a_second_service_stands_beside_the_first(rt: HostRuntime) -> Tested {
     let site = serving_others(&rt)?;
@@ -128,7 +127,7 @@ fn a_second_service_stands_beside_the_first(rt: HostRuntime) -> Tested {
     Ok(())
 }
 
-/// A service under this path is refused.
+/// Checks that a service at this path is refused.
 fn path_is_refused<R: Host>(rt: &R, board: &Arc<Board, Global>, path: &str) -> Answered<()> {
     let server: Tried<R> = unbound(rt, board)?;
     let methods = echo_at(rt, board, path)?;
@@ -136,7 +135,7 @@ fn path_is_refused<R: Host>(rt: &R, board: &Arc<Board, Global>, path: &str) -> A
     is_told(rt, server.register_service(methods), text.as_str())
 }
 
-/// A path of another form is refused.
+/// A path without both a service and a method is refused.
 #[test]
 fn a_path_has_a_service_and_a_method(rt: HostRuntime) -> Tested {
     let board = Arc::new(rt.alloc(), Board::new(rt.alloc()))?;

@@ -1,4 +1,4 @@
-//! Who is told of a server's faults.
+//! The reports of a server's faults.
 use crate::tests::Tested;
 use std::alloc::Global;
 use std::io::ErrorKind;
@@ -15,8 +15,8 @@ use ttrpc_sync::Host;
 use ttrpc_sync_server::accept::{Stop, next_connection};
 use ttrpc_sync_server::{NoHook, Server, SharedHook, Watch};
 
-/// What a watch was told: how often that a connection wasn't accepted, how often that a handler failed, and the text of the
-/// last refusal by a hook.
+/// The reports to a watch: the number of failed accepts, the number of failed handlers, and the text of the last
+/// rejection by a hook.
 #[derive(Drop)]
 struct Told {
     accepts: AtomicU64,
@@ -24,7 +24,7 @@ struct Told {
     refusal: Mutex<Option<String>>,
 }
 
-/// A watch that notes what it is told.
+/// A watch that notes its reports.
 #[derive(Drop)]
 struct Notes<R: Host> {
     rt: R,
@@ -65,7 +65,7 @@ impl<R: Host> Watch for Notes<R> {
     }
 }
 
-/// Returns how often three failures of this kind to accept are told, after which no connection comes.
+/// Returns how many of three failed accepts of this kind are reported. No connection comes after them.
 fn told_accepts<R: Host>(rt: &R, kind: ErrorKind) -> Answered<u64> {
     let notes = Notes::new(rt)?;
     let failing = Failing {
@@ -78,7 +78,8 @@ fn told_accepts<R: Host>(rt: &R, kind: ErrorKind) -> Answered<u64> {
     Ok(notes.told.accepts.load(Ordering::SeqCst))
 }
 
-/// Each try to accept that fails is told, but for those that only a signal ended.
+/// Each failed accept is reported, except those that only a signal ended.
+// Seen to fail if a failed accept isn't reported.
 #[test]
 fn failed_accepts_are_told(rt: HostRuntime) -> Tested {
     for (kind, count) in [(ErrorKind::Other, 3), (ErrorKind::Interrupted, 0)] {
@@ -90,7 +91,7 @@ fn failed_accepts_are_told(rt: HostRuntime) -> Tested {
 /// A server with a hook of this type and a watch that notes.
 type Watched<R, A> = Server<R, Method<R>, A, Notes<R>>;
 
-/// A server with this hook and this watch, which doesn't listen yet.
+/// Returns a server with this hook and this watch, which doesn't listen yet.
 fn bound<R, O, I, A>(rt: &R, hook: A, notes: Notes<R>) -> Answered<Watched<R, A>>
 where
     R: Machine + 'static,
@@ -105,7 +106,7 @@ where
     Ok(server)
 }
 
-/// The same, which listens, and its address.
+/// Starts such a server, and returns it with its address.
 fn watched<R, O, I, A>(rt: &R, hook: A, notes: Notes<R>) -> Answered<(Watched<R, A>, String)>
 where
     R: Machine + 'static,
@@ -119,17 +120,17 @@ where
     Ok((server, address))
 }
 
-/// The text of a refusal by the hook.
+/// The text of a rejection by the hook.
 const REFUSAL: &str = "ttrpc err: accept hook failed: connection rejected: no";
 
-/// Returns whether the last refusal comes to be told, with its reason.
+/// Returns whether the last rejection is reported, with its reason.
 fn refusal_is_told<R: Host>(rt: &R, told: &Told) -> bool {
     let came = comes(rt, || told.refusal.lock(rt).is_some());
     let text = told.refusal.lock(rt).take();
     came && matches!(text, Some(text) if text.as_str() == REFUSAL)
 }
 
-/// A call of a server with this hook fails. The server is given back, with what its watch is told.
+/// Checks that a call of a server with this hook fails. Returns the server, with the reports to its watch.
 fn failed<R, O, I, A>(rt: &R, hook: A, method: &str) -> Answered<(Watched<R, A>, Arc<Told, Global>)>
 where
     R: Machine + 'static,
@@ -144,7 +145,8 @@ where
     Ok((server, told))
 }
 
-/// A hook's refusal is told, with its reason.
+/// A hook's rejection is reported, with its reason.
+// Seen to fail if a hook's refusal isn't reported.
 #[test]
 fn a_refusal_is_told(rt: HostRuntime) -> Tested {
     let (server, told) = failed(&rt, Rejects {}, "Echo")?;
@@ -153,7 +155,8 @@ fn a_refusal_is_told(rt: HostRuntime) -> Tested {
     Ok(())
 }
 
-/// A handler's failure is told, once.
+/// A handler's failure is reported once.
+// Seen to fail if a handler's failure isn't reported.
 #[test]
 fn a_failure_is_told(rt: HostRuntime) -> Tested {
     let (server, told) = failed(&rt, NoHook {}, "Fails")?;

@@ -1,4 +1,4 @@
-//! Calls over sockets: of threads that share a client, of a client with a limit of time, of any size, and by a path.
+//! Calls over sockets: of threads that share a client, of a client with a timeout, of any size, and at a path.
 use crate::tests::Tested;
 use std::sync::Wait;
 use std::sync::atomic::Ordering;
@@ -16,10 +16,10 @@ use ttrpc_sync::Host;
 use ttrpc_sync_client::Client;
 use ttrpc_sync_server::{NoHook, Server};
 
-/// How many calls each of two threads makes.
+/// The number of calls that each of two threads makes.
 const CALLS: u8 = 100;
 
-/// A hundred calls, each with a payload of its own, and each answered by that.
+/// Makes a hundred calls, each with its own payload, and checks that each response has it.
 fn calls_by<R, O, I>(rt: &R, client: &Client<R, O, I>, caller: u8) -> Answered<()>
 where
     R: Host,
@@ -32,14 +32,14 @@ where
     Ok(())
 }
 
-/// How often this payload was seen.
+/// Returns how often this payload was seen.
 fn times_seen(seen: &[(u32, Vec<u8>)], sent: &[u8]) -> usize {
     seen.iter()
         .filter(|(_, payload)| payload.as_slice() == sent)
         .count()
 }
 
-/// How often a request was seen under this id.
+/// Returns how often a request was seen with this id.
 fn times_named(seen: &[(u32, Vec<u8>)], named: u32) -> usize {
     seen.iter().filter(|(id, _)| *id == named).count()
 }
@@ -64,7 +64,7 @@ fn ids_are_seen(seen: &[(u32, Vec<u8>)]) -> bool {
     true
 }
 
-/// Returns whether the board has each payload once, under the odd ids up to 399.
+/// Returns whether the board has each payload once, with the odd ids up to 399.
 fn all_are_seen<R: Wait>(rt: &R, board: &Board) -> bool {
     let locked = board.seen.lock(rt);
     let seen = locked.as_slice();
@@ -74,7 +74,7 @@ fn all_are_seen<R: Wait>(rt: &R, board: &Board) -> bool {
         && ids_are_seen(seen)
 }
 
-/// Two threads with these numbers make a hundred calls each, over one connection.
+/// Makes a hundred calls in each of two threads with these numbers, over one connection.
 fn calls_by_both<R: Machine>(
     rt: &R,
     first: &PlainClient<R>,
@@ -90,6 +90,7 @@ fn calls_by_both<R: Machine>(
     other
 }
 
+// Should fail if a socket, loop, worker, handler or call does nothing, or fails; a caller waits at another call's place.
 #[test]
 fn two_threads_share_a_client(rt: HostRuntime) -> Tested {
     let (site, first, second) = serving_two(&rt)?;
@@ -99,7 +100,7 @@ fn two_threads_share_a_client(rt: HostRuntime) -> Tested {
     Ok(())
 }
 
-/// A call with a limit of time is answered.
+/// Makes a call with a timeout, and checks that it is answered.
 fn limited_is_answered<R: Host>(rt: &R, client: &PlainClient<R>) -> Answered<()> {
     let limited = client.request(request(rt.alloc(), "Echo", b"2", 5000000000)?)?;
     check(
@@ -109,7 +110,8 @@ fn limited_is_answered<R: Host>(rt: &R, client: &PlainClient<R>) -> Answered<()>
     )
 }
 
-/// Calls alone are answered, then one with a limit of time, and then calls together.
+/// Makes calls that are alone, then one with a timeout, and then calls at the same time, and checks that they are
+/// answered.
 fn each_is_answered<R: Machine>(
     rt: &R,
     first: &PlainClient<R>,
@@ -120,8 +122,9 @@ fn each_is_answered<R: Machine>(
     calls_by_both(rt, first, second, (1, 2))
 }
 
-/// Callers read for themselves while each is alone. For a call with a limit of time, and for callers that aren't alone,
-/// the client's thread reads, and then rests again.
+/// Callers read for themselves while each is alone. For a call with a timeout, and for callers that aren't alone, the
+/// client's thread reads, and then rests again.
+// Should fail if a caller waits at the writer thread's place.
 #[test]
 fn calls_alone_and_together_are_answered(rt: HostRuntime) -> Tested {
     let (site, first, second) = serving_two(&rt)?;
@@ -132,7 +135,7 @@ fn calls_alone_and_together_are_answered(rt: HostRuntime) -> Tested {
     Ok(())
 }
 
-/// Calls, and opens the gate that the other call waits behind.
+/// Makes a call, and opens the gate that the other call waits at.
 fn opens<R, O, I>(rt: &R, client: &Client<R, O, I>, board: &Board) -> Answered<()>
 where
     R: Host,
@@ -145,7 +148,7 @@ where
     Ok(())
 }
 
-/// A call is answered while an earlier one of the same connection is under way.
+/// A call is answered while an earlier call of the same connection is running.
 #[test]
 fn calls_run_at_the_same_time(rt: HostRuntime) -> Tested {
     let (site, first, second) = serving_two(&rt)?;
@@ -160,7 +163,7 @@ fn calls_run_at_the_same_time(rt: HostRuntime) -> Tested {
     Ok(())
 }
 
-/// Returns whether a call of 50 milliseconds is told that its time is up, then and not later.
+/// Returns whether a call with a timeout of 50 milliseconds expires then and not later.
 fn is_late<R: Machine>(rt: &R, client: &PlainClient<R>) -> Result<bool, Fail> {
     let start = Instant::now(rt)?;
     let late = client.request(request(rt.alloc(), "Waits", b"", 50000000)?);
@@ -169,7 +172,8 @@ fn is_late<R: Machine>(rt: &R, client: &PlainClient<R>) -> Result<bool, Fail> {
     Ok(passed >= Duration::from_millis(50) && passed < Duration::from_millis(500))
 }
 
-/// A call whose time is up ends then, though its handler goes on; and the connection serves more calls.
+/// A call ends when its timeout passes, though its handler goes on. The connection serves more calls.
+// Should fail if the clock never advances; `stop_listen` leaves the listener open.
 #[test]
 fn a_deadline_is_met(rt: HostRuntime) -> Tested {
     let (site, client) = serving_one(&rt)?;
@@ -182,13 +186,13 @@ fn a_deadline_is_met(rt: HostRuntime) -> Tested {
 /// Lengths of payloads around the sizes of buffers, and one near the limit.
 const LENGTHS: &[usize] = &[0, 1, 4085, 4086, 65536, 4000000];
 
-/// A payload of so many bytes is answered.
+/// Checks that a payload of `length` bytes is answered.
 fn size_passes<R: Host>(rt: &R, client: &PlainClient<R>, length: usize) -> Answered<()> {
     let payload = Vec::from_elem(rt.alloc(), 7u8, length)?;
     answers(rt, client, "Echo", payload.as_slice(), payload.as_slice())
 }
 
-/// A payload above the limit is refused.
+/// Checks that a payload above the limit is refused.
 fn too_much_is_refused<R: Host>(rt: &R, client: &PlainClient<R>) -> Answered<()> {
     let payload = Vec::from_elem(rt.alloc(), 7u8, 4194304)?;
     is_told(
@@ -198,7 +202,8 @@ fn too_much_is_refused<R: Host>(rt: &R, client: &PlainClient<R>) -> Answered<()>
     )
 }
 
-/// Payloads of any size are answered, whether writes go out at once or not; one above the limit is refused.
+/// Checks that payloads of any size are answered, whether writes go out at once or not, and that one above the limit is
+/// refused.
 fn sizes_pass<R: Machine + 'static>(rt: &R, address: &str, nodelay: bool) -> Answered<()> {
     let client = Client::connect(rt.clone()?, address, nodelay)?;
     for &length in LENGTHS {
@@ -218,7 +223,7 @@ fn payloads_have_any_size(rt: HostRuntime) -> Tested {
     Ok(())
 }
 
-/// A method that isn't there is refused by its path, and a status that isn't 0 is an error.
+/// A call of an unknown method is refused with its path, and a status with another code than 0 is an error.
 #[test]
 fn an_unknown_method_is_refused(rt: HostRuntime) -> Tested {
     let (site, client) = serving_one(&rt)?;
@@ -231,7 +236,8 @@ fn an_unknown_method_is_refused(rt: HostRuntime) -> Tested {
     Ok(())
 }
 
-/// A handler may answer by an error, which the caller is told by its text.
+/// A handler may answer with an error, and the caller gets the error's text.
+// Should fail if `response_error_to_channel` does nothing.
 #[test]
 fn an_error_is_an_answer(rt: HostRuntime) -> Tested {
     let (site, client) = serving_one(&rt)?;
@@ -241,7 +247,7 @@ fn an_error_is_an_answer(rt: HostRuntime) -> Tested {
     Ok(())
 }
 
-/// A server that listens at this path.
+/// Starts a server that listens at this path.
 fn serving_at<R: Machine + 'static>(
     rt: &R,
     address: &str,

@@ -1,4 +1,4 @@
-//! The threads of a connection: how many there are, which jobs they take, and what a server's settings are to them.
+//! The threads of a connection: their number, the jobs that they take, and the server's settings for them.
 use crate::tests::Tested;
 use std::alloc::Global;
 use std::io::ErrorKind;
@@ -24,7 +24,7 @@ use ttrpc_sync_server::{NoHook, NoWatch};
 use ttrpc_transport::{PipeConnection, PipeListener};
 use ttrpc_wire::values::slices::behind;
 
-/// How many threads this process has.
+/// Returns the number of threads of this process.
 fn threads<R: Files + Host>(rt: &R) -> Option<usize> {
     let mut count: usize = 0;
     for _ in fs::read_dir(rt, "/proc/self/task").ok()? {
@@ -33,25 +33,26 @@ fn threads<R: Files + Host>(rt: &R) -> Option<usize> {
     Some(count)
 }
 
-/// It comes to have so many threads more than before.
+/// Waits until there are `more` more threads than before. Returns whether that happened in time.
 fn has_more_threads<R: Machine>(rt: &R, before: usize, more: usize) -> bool {
     let count = before.saturating_add(more);
     comes(rt, || threads(rt) == Some(count))
 }
 
-/// Waits behind the gate.
+/// Makes a call that waits at the gate.
 fn gated<R: Host>(rt: &R, client: &PlainClient<R>) -> Answered<()> {
     answers(rt, client, "Gate", b"", b"open")
 }
 
-/// Opens the gate once so many handlers wait behind it.
-fn opens_behind<C: Clock>(rt: &C, board: &Board, count: u64) -> bool {
+/// Opens the gate when `count` handlers wait at it. Returns whether they came in time.
+pub fn opens_behind<C: Clock>(rt: &C, board: &Board, count: u64) -> bool {
     let came = comes(rt, || board.gated.load(Ordering::SeqCst) == count);
     board.is_open.store(true, Ordering::SeqCst);
     came
 }
 
-/// Four slow calls of one connection run at once, though it begins with three workers.
+/// Four slow calls of one connection run at the same time, though it begins with three workers.
+// Seen to fail if no worker is started again. Should fail if a handler that leaves a gate isn't counted out.
 #[test]
 fn more_workers_are_started(rt: HostRuntime) -> Tested {
     let (site, client) = serving_one(&rt)?;
@@ -75,7 +76,7 @@ fn more_workers_are_started(rt: HostRuntime) -> Tested {
     Ok(())
 }
 
-/// The bytes of a request of `Gate` under id 1, and of one of `Echo` under id 3.
+/// Returns the bytes of a request of `Gate` with the id 1, and of one of `Echo` with the id 3.
 fn gate_and_echo(alloc: Global) -> Answered<Vec<u8>> {
     let mut asked = requests(alloc, "Gate", 1)?;
     let both = requests(alloc, "Echo", 2)?;
@@ -83,7 +84,7 @@ fn gate_and_echo(alloc: Global) -> Answered<Vec<u8>> {
     Ok(asked)
 }
 
-/// A bare connection on which both were written in one piece, after a while.
+/// Opens a bare connection, and after a while writes both requests in one piece.
 fn asking_both<R: Machine>(rt: &R, address: &str) -> Answered<PipeConnection> {
     let bare = connection(rt, address)?;
     let asked = gate_and_echo(rt.alloc())?;
@@ -92,7 +93,7 @@ fn asking_both<R: Machine>(rt: &R, address: &str) -> Answered<PipeConnection> {
     Ok(bare)
 }
 
-/// The ids of the frames that come before the gate is opened, and then.
+/// Returns the ids of the frame that comes before the gate is opened, and of the one after it.
 fn ids_around_the_gate(
     alloc: Global,
     bare: &PipeConnection,
@@ -103,7 +104,9 @@ fn ids_around_the_gate(
     Ok((first, next_id(alloc, bare)?))
 }
 
-/// Two requests come in one piece: the second is answered while the first one's handler waits.
+/// Two requests come in one piece. The second is answered while the first one's handler waits.
+// Seen to fail if a worker that takes a job wakes no other; a reader that waits for its turn never looks, or wakes no worker as it takes
+// the turn.
 #[test]
 fn each_job_of_a_piece_has_a_worker(rt: HostRuntime) -> Tested {
     let site = serving(&rt)?;
@@ -114,7 +117,7 @@ fn each_job_of_a_piece_has_a_worker(rt: HostRuntime) -> Tested {
     Ok(())
 }
 
-/// How many jobs may wait, and whether two requests come in one piece.
+/// The number of jobs that may wait, and whether two requests come in one piece.
 const PAIRS: &[(Option<u64>, bool)] = &[
     (Some(4096), false),
     (Some(4096), true),
@@ -123,7 +126,7 @@ const PAIRS: &[(Option<u64>, bool)] = &[
     (None, true),
 ];
 
-/// A server at which so many jobs and bytes of a connection may wait.
+/// Starts a server with these limits for the waiting jobs and bytes of a connection.
 fn limited<R: Machine + 'static>(
     rt: &R,
     jobs: Option<u64>,
@@ -137,7 +140,8 @@ fn limited<R: Machine + 'static>(
     started(rt, server, board)
 }
 
-/// Writes a request whose handler waits behind the gate, and one whose handler opens it, in one piece or after a while.
+/// Writes a request with a handler that waits at the gate, and one with a handler that opens it, in one piece or with a
+/// while between.
 fn ask_for_both(
     alloc: Global,
     clock: &impl Clock,
@@ -156,7 +160,7 @@ fn ask_for_both(
     write_all(bare, opens.as_slice())
 }
 
-/// Returns whether the next two answers came, and one of them says that the gate was opened.
+/// Returns whether the next two answers came, and one of them is that the gate was opened.
 fn gate_was_opened(alloc: Global, bare: &PipeConnection) -> Answered<bool> {
     let mut reader = bare;
     let first = read_frame(alloc, &mut reader)?;
@@ -169,8 +173,8 @@ fn is_open(payload: &[u8]) -> bool {
     payload.ends_with(b"open")
 }
 
-/// A handler that blocks until a later request of its connection was handled is answered, and so is that request, however
-/// they come and however few jobs may wait.
+/// A handler that blocks until a later request of its connection was handled is answered, and so is that request. It
+/// doesn't matter how they come, and how few jobs may wait.
 #[test]
 fn a_handler_may_wait_for_a_later_call(rt: HostRuntime) -> Tested {
     for &(jobs, at_once) in PAIRS {
@@ -183,7 +187,7 @@ fn a_handler_may_wait_for_a_later_call(rt: HostRuntime) -> Tested {
     Ok(())
 }
 
-/// How many jobs and bytes may wait while a client makes calls without pause.
+/// The number of jobs and bytes that may wait while a client makes calls without pause.
 const LIMITS: &[(Option<u64>, Option<u64>)] = &[
     (Some(0), None),
     (Some(10), None),
@@ -191,13 +195,13 @@ const LIMITS: &[(Option<u64>, Option<u64>)] = &[
     (Some(4096), Some(8388608)),
 ];
 
-/// Writes so many requests, and ends.
+/// Writes `count` requests.
 fn asks_without_pause(alloc: Global, bare: &PipeConnection, count: u32) -> Answered<()> {
     let asked = requests(alloc, "Opens", count)?;
     write_all(bare, asked.as_slice())
 }
 
-/// Returns whether so many calls without pause are all answered.
+/// Returns whether `count` calls without pause are all answered.
 fn all_are_answered<R: Machine>(rt: &R, address: &str, count: u32) -> Answered<bool> {
     let bare = connection(rt, address)?;
     let (asked, answered) = thread::join(
@@ -210,7 +214,7 @@ fn all_are_answered<R: Machine>(rt: &R, address: &str, count: u32) -> Answered<b
 }
 
 /// Counts the frames that come, up to this count.
-fn frames_until(alloc: Global, bare: &PipeConnection, count: u32) -> u32 {
+pub fn frames_until(alloc: Global, bare: &PipeConnection, count: u32) -> u32 {
     let mut reader = bare;
     let mut came: u32 = 0;
     for _ in 0..count {
@@ -222,7 +226,7 @@ fn frames_until(alloc: Global, bare: &PipeConnection, count: u32) -> u32 {
     came
 }
 
-/// A client that makes calls without pause gets each answer, however few may wait.
+/// A client that makes calls without pause gets each answer, however few jobs may wait.
 #[test]
 fn calls_without_pause_are_answered(rt: HostRuntime) -> Tested {
     for &(jobs, bytes) in LIMITS {
@@ -233,10 +237,11 @@ fn calls_without_pause_are_answered(rt: HostRuntime) -> Tested {
     Ok(())
 }
 
-/// For how many nanoseconds a bare client makes calls, so that a reader that waits for its turn looks as seldom as it ever does.
+/// The time for which a bare client makes calls, in nanoseconds. After it a reader that waits for its turn looks as
+/// rarely as it ever does.
 const BUSY: u64 = 400000000;
 
-/// A bare connection that was busy for so long with calls, one after the other.
+/// Opens a bare connection, and makes calls on it for that time, one after the other.
 fn busy<R: Machine>(rt: &R, address: &str) -> Answered<PipeConnection> {
     let bare = connection(rt, address)?;
     let asked = requests(rt.alloc(), "Echo", 1)?;
@@ -251,8 +256,8 @@ fn busy<R: Machine>(rt: &R, address: &str) -> Answered<PipeConnection> {
     Ok(bare)
 }
 
-/// Returns whether the second of two calls that come in one piece is answered first, in 0.2 seconds, while the first one's
-/// handler waits.
+/// Returns whether the second of two calls that come in one piece is answered first, within 0.2 seconds, while the
+/// first one's handler waits.
 fn second_is_soon<R: Machine>(rt: &R, bare: &PipeConnection) -> Answered<bool> {
     let asked = gate_and_echo(rt.alloc())?;
     let start = moment(rt)?;
@@ -261,7 +266,8 @@ fn second_is_soon<R: Machine>(rt: &R, bare: &PipeConnection) -> Answered<bool> {
     Ok(first == 3 && moment(rt)?.saturating_sub(start) < 200000000)
 }
 
-/// A job waits behind another's handler for some milliseconds at most, also on a connection that was busy until then.
+/// A job waits for another's handler for some milliseconds at most, even on a connection that was busy until then.
+// Seen to fail if a reader that waits for its turn looks only after 1.6 seconds.
 #[test]
 fn a_job_waits_a_moment_behind_another(rt: HostRuntime) -> Tested {
     let site = serving(&rt)?;
@@ -272,7 +278,8 @@ fn a_job_waits_a_moment_behind_another(rt: HostRuntime) -> Tested {
     Ok(())
 }
 
-/// A client that is dropped at rest leaves no thread behind.
+/// A client that is dropped at rest leaves no threads.
+// Seen to fail if a client at rest is dropped without `abandon`.
 #[test]
 fn a_client_at_rest_leaves_no_threads(rt: HostRuntime) -> Tested {
     let site = serving(&rt)?;
@@ -285,7 +292,7 @@ fn a_client_at_rest_leaves_no_threads(rt: HostRuntime) -> Tested {
     Ok(())
 }
 
-/// A server whose connections begin with so many workers.
+/// Starts a server with these counts of workers for a connection: default, least and greatest.
 fn crowded<R: Machine + 'static>(
     rt: &R,
     counts: (usize, usize, usize),
@@ -299,7 +306,7 @@ fn crowded<R: Machine + 'static>(
     started(rt, server, board)
 }
 
-/// The same, and one connection of it.
+/// Does the same, and opens one connection.
 fn crowd<R: Machine + 'static>(
     rt: &R,
     counts: (usize, usize, usize),
@@ -309,7 +316,7 @@ fn crowd<R: Machine + 'static>(
     Ok((site, bare))
 }
 
-/// Returns whether there are eleven threads more, also after a while, and one once the connection is closed.
+/// Returns whether there are eleven more threads, even after a while, and one more after the connection is closed.
 fn has_a_crew<R: Machine>(rt: &R, before: usize, bare: PipeConnection) -> Answered<bool> {
     let at_first = has_more_threads(rt, before, 11);
     a_while(rt);
@@ -319,8 +326,9 @@ fn has_a_crew<R: Machine>(rt: &R, before: usize, bare: PipeConnection) -> Answer
     Ok(at_first && later && has_more_threads(rt, before, 1))
 }
 
-/// Beside its workers a connection has a thread that keeps it, two that read and one that writes; and the server one that
-/// accepts.
+/// Besides its workers a connection has a thread that keeps it, two that read and one that writes. The server has one
+/// that accepts.
+// Should fail if a connection begins with another count of workers.
 #[test]
 fn a_connection_begins_with_its_workers(rt: HostRuntime) -> Tested {
     let before = threads(&rt).ok_or("no threads")?;
@@ -330,14 +338,14 @@ fn a_connection_begins_with_its_workers(rt: HostRuntime) -> Tested {
     Ok(())
 }
 
-/// A listener at a free port that never waits.
+/// Returns a listener at a free port that never waits.
 fn hasty_listener<R: Machine>(rt: &R) -> Result<PipeListener, Fail> {
     let listener = TcpListener::bind(rt, "127.0.0.1:0")?;
     listener.set_nonblocking(true)?;
     Ok(PipeListener::from_tcp(listener)?)
 }
 
-/// A server that looks at such a listener every five milliseconds.
+/// Starts a server that looks at such a listener every five milliseconds.
 fn hasty<R: Machine + 'static>(rt: &R) -> Result<Site<R, NoHook>, Fail> {
     let board = Arc::new(rt.alloc(), Board::new(rt.alloc()))?;
     let server = unbound(rt, &board)?
@@ -353,7 +361,9 @@ fn is_soon_answered<R: Machine + 'static>(rt: &R, address: &str) -> Result<bool,
     Ok(start.elapsed(rt)? < Duration::from_secs(5))
 }
 
-/// Where the system gives no connection, the server looks again behind its own interval, and not only behind 10 seconds.
+/// If the system has no connection to accept, the server looks again after its own interval, and not only after 10
+/// seconds.
+// Seen to fail if the interval to accept again is an hour.
 #[test]
 fn the_interval_of_a_server_is_its_own(rt: HostRuntime) -> Tested {
     let site = hasty(&rt)?;
@@ -363,7 +373,7 @@ fn the_interval_of_a_server_is_its_own(rt: HostRuntime) -> Tested {
     Ok(())
 }
 
-/// Keeps whether the last connection's writes go out at once.
+/// A hook that keeps whether the last connection's writes go out at once.
 #[derive(Drop)]
 struct SeesNodelay {
     nodelay: Arc<AtomicBool, Global>,
@@ -385,7 +395,8 @@ impl AcceptHook<PipeConnection> for SeesNodelay {
     }
 }
 
-/// A server whose hook keeps whether writes go out at once, which they do or not, and where it keeps that.
+/// Starts a server with this setting and with a hook that keeps the setting of its connections. Returns the place where
+/// the hook keeps it, too.
 fn seeing<R: Machine + 'static>(
     rt: &R,
     nodelay: bool,
@@ -398,7 +409,8 @@ fn seeing<R: Machine + 'static>(
     Ok((site, seen))
 }
 
-/// Each connection's writes go out at once where the server was bound so, and not otherwise.
+/// Each connection's writes go out at once if the server was bound so, and not otherwise.
+// Seen to fail if a server's connections have TCP's delay, whatever its setting.
 #[test]
 fn nodelay_is_handed_on(rt: HostRuntime) -> Tested {
     for nodelay in [true, false] {
@@ -410,13 +422,14 @@ fn nodelay_is_handed_on(rt: HostRuntime) -> Tested {
     Ok(())
 }
 
-/// Says that a connection of the server has ended, after a while.
+/// Reports that a connection of the server has ended, after a while.
 fn ends_later<X: Wait + Clock>(rt: &X, stop: &Stop) {
     a_while(rt);
     stop.note_end(rt);
 }
 
 /// A server that waits to accept again looks as soon as one of its connections has ended.
+// Seen to fail if the end of a connection isn't counted.
 #[test]
 fn an_end_lets_a_server_accept_again(rt: HostRuntime) -> Tested {
     let failing = Failing {

@@ -5,5 +5,5 @@ mod room_tests;
 
 use std::test::Fail;
 
-/// Nothing, or why a test ended.
+/// Nothing, or the reason why a test ended.
 type Tested = Result<(), Fail>;

@@ -1,35 +1,38 @@
-//! Callers that find no room for what they send.
+//! Callers and handlers with messages that have no room.
 use crate::tests::Tested;
 use crate::tests::attack_tests::{accepted, answer_next};
+use crate::tests::crew_tests::{frames_until, opens_behind};
 use std::alloc::Global;
 use std::thread;
-use ttrpc_bench_threads::sites::{Machine, PlainClient, a_while, call, client, listening, request};
+use ttrpc_bench_threads::handlers::LONG;
+use ttrpc_bench_threads::peers::{requests, write_all};
+use ttrpc_bench_threads::sites::{
+    Machine, PlainClient, Site, a_while, call, client, connection, listening, request, serving,
+};
 use ttrpc_proto::{Error, Result as Answered};
 use ttrpc_sync::Host;
+use ttrpc_sync_server::NoHook;
 use ttrpc_transport::PipeListener;
-
-/// How many bytes are sent with a call. A client's queue has room for two such calls, and the system keeps less than two more.
-const LONG: usize = 4_000_000;
 
 fn long_payload(alloc: Global) -> Answered<Vec<u8>> {
     Ok(Vec::from_elem(alloc, 7u8, LONG)?)
 }
 
-/// Makes a long call, which may wait as long as it likes.
+/// Makes a long call without a timeout.
 fn calls_at_length<R: Host>(rt: &R, client: &PlainClient<R>) -> Answered<()> {
     let payload = long_payload(rt.alloc())?;
     call(rt, client, "Echo", payload.as_slice())?;
     Ok(())
 }
 
-/// Makes a long call that may wait 0.3 seconds. Returns whether its time was up.
+/// Makes a long call with a timeout of 0.3 seconds. Returns whether it expired.
 fn expires<R: Host>(rt: &R, client: &PlainClient<R>) -> Answered<bool> {
     let payload = long_payload(rt.alloc())?;
     let late = client.request(request(rt.alloc(), "Echo", payload.as_slice(), 300000000)?);
     Ok(matches!(late, Err(Error::Others(_))))
 }
 
-/// Has one more call expire while nothing is read, and then answers four calls. Returns whether the call's time was up.
+/// Has one more call expire while nothing is read, and then answers four calls. Returns whether the call expired.
 fn answers_four_late<R: Machine>(
     rt: &R,
     client: &PlainClient<R>,
@@ -46,8 +49,9 @@ fn answers_four_late<R: Machine>(
     Ok(has_expired)
 }
 
-/// Four callers send more than there is room for, to a peer that reads nothing at first. Each waits, and is answered. A call whose
-/// time is up before there is room for it has expired.
+/// Four callers send more than there is room for, to a peer that reads nothing at first. Each waits, and is answered. A
+/// call expires if its timeout passes before there is room for it.
+// Seen to fail if a report wakes no caller that waits for room.
 #[test]
 fn callers_wait_for_room(rt: HostRuntime) -> Tested {
     let (listener, address) = listening(&rt)?;
@@ -80,5 +84,30 @@ fn callers_wait_for_room(rt: HostRuntime) -> Tested {
     first.1?;
     second.0?;
     second.1?;
+    Ok(())
+}
+
+/// The number of handlers that answer at the same time, each at length. A server's queue has room for two such answers,
+/// and the system keeps less than two more.
+const HANDLERS: u32 = 5;
+
+/// Has the handlers wait for each other, and answer to a peer that reads nothing at first. Returns whether each answer
+/// comes.
+fn answers_come_late<R: Machine>(rt: &R, site: &Site<R, NoHook>) -> Answered<bool> {
+    let bare = connection(rt, site.address.as_str())?;
+    let asked = requests(rt.alloc(), "GateAtLength", HANDLERS)?;
+    write_all(&bare, asked.as_slice())?;
+    let came = opens_behind(rt, &*site.board, HANDLERS as u64);
+    a_while(rt);
+    Ok(came && frames_until(rt.alloc(), &bare, HANDLERS) == HANDLERS)
+}
+
+/// A handler waits for room if its answer has none, and no answer is lost.
+// Seen to fail if a worker drops its answer if there is no room.
+#[test]
+fn answers_wait_for_room(rt: HostRuntime) -> Tested {
+    let site = serving(&rt)?;
+    assert!(rt; answers_come_late(&rt, &site)?);
+    site.server.shutdown();
     Ok(())
 }

@@ -1,4 +1,4 @@
-//! What addresses say, and why some are refused.
+//! The parts of addresses, and the refusals of some.
 
 use std::alloc::Global;
 use std::test::Fail;
@@ -17,7 +17,7 @@ const ADDRESSES: &[(&str, Domain, &str)] = &[
     ("vsock://-1:1024", Domain::Vsock, "-1:1024"),
 ];
 
-/// Addresses of no domain, each with what refuses it.
+/// Addresses of no domain, each with its error.
 const UNKNOWN: &[(&str, &str)] = &[
     (
         "Vsock://8:1025",
@@ -42,7 +42,7 @@ const PARTS: &[(&str, (u32, u32))] = &[
     ("4294967295:4294967295", (4294967295, 4294967295)),
 ];
 
-/// Parts that are none, each with what refuses it.
+/// Parts that are no vsock parts, each with its error.
 const NO_PARTS: &[(&str, &str)] = &[
     ("8", "sockaddr 8 is not right for vsock"),
     ("", "sockaddr  is not right for vsock"),
@@ -58,7 +58,7 @@ const NO_PARTS: &[(&str, &str)] = &[
     ("8:4294967296", "failed to parse port from \"4294967296\""),
 ];
 
-/// Places, each with what it prints.
+/// Places, each with its text.
 const PLACES: &[(&str, &str)] = &[
     ("tcp://127.0.0.1:8080", "127.0.0.1:8080"),
     ("tcp://[::1]:1", "[::1]:1"),
@@ -66,7 +66,7 @@ const PLACES: &[(&str, &str)] = &[
     ("unix://a@b", "a@b"),
 ];
 
-/// Addresses that name no place, each with what refuses it, of that the beginning where the rest is std's.
+/// Addresses that name no place, each with its error. If the error ends with std's text, only its beginning is given.
 const NO_PLACES: &[(&str, &str)] = &[
     ("vsock://3:1024", "vsock is not supported"),
     ("vsock://x", "vsock is not supported"),
@@ -93,7 +93,7 @@ const NO_PLACES: &[(&str, &str)] = &[
     ("tcp://", "Failed to parse TCP address '': "),
 ];
 
-/// Values of the variable, each with what it says.
+/// Values of the variable, each with its meaning.
 const SWITCHES: &[(Option<&str>, bool)] = &[
     (None, false),
     (Some("1"), true),
@@ -109,7 +109,8 @@ const SWITCHES: &[(Option<&str>, bool)] = &[
     (Some("yes"), false),
 ];
 
-/// Returns whether the text begins so, and ends there unless a colon and a space end this.
+/// Returns whether the text begins with `beginning`. It must end there, unless `beginning` ends with a colon and a
+/// space.
 fn tells(text: &str, beginning: &str) -> bool {
     if beginning.ends_with(": ") {
         text.starts_with(beginning)
@@ -118,7 +119,8 @@ fn tells(text: &str, beginning: &str) -> bool {
     }
 }
 
-/// Returns whether the answer is a refusal whose text begins so, and ends there unless a colon and a space end this.
+/// Returns whether the answer is a refusal with a text that begins with `beginning`. The text must end there, unless
+/// `beginning` ends with a colon and a space.
 pub fn is_refused<T: Drop>(answer: Answer<T>, beginning: &str) -> Result<bool, Fail> {
     match answer {
         Err(Error::Others(text)) => Ok(tells(text.as_str(), beginning)),
@@ -156,7 +158,7 @@ fn parts_of_vsock_are_read(rt: HostRuntime) -> Tested {
     Ok(())
 }
 
-/// Returns whether the place that the address names prints this.
+/// Returns whether the place that the address names has this text.
 fn is_place(alloc: Global, address: &str, expected: &str) -> Result<bool, Fail> {
     let text = text_of(alloc, socket_of(alloc, address)?)?;
     Ok(text.as_str() == expected)

@@ -14,7 +14,7 @@ use std::{fs, io, thread};
 use ttrpc_bench::checks::{Tested, check};
 use ttrpc_transport::{PipeConnection, PipeListener};
 
-/// Returns whether a thread that reads is at the end once another thread closes the connection, or ends its reads.
+/// Returns whether a thread that reads gets the end after another thread closes the connection, or ends its reads.
 fn reader_wakes<R>(rt: &R, reader: &PipeConnection, by_close: bool) -> Result<bool, Fail>
 where
     R: Threads + Clock + Sync,
@@ -35,14 +35,14 @@ where
     Ok(read? == 0)
 }
 
-/// Closes all ends of the pair, also one that is closed.
+/// Closes all ends of the pair, even one that is closed.
 fn close_all(pair: &Pair) -> Tested {
     pair.connection.close()?;
     pair.client.close()?;
     Ok(pair.accepted.close()?)
 }
 
-/// Returns whether a close wakes who reads. To close either end again does nothing.
+/// Returns whether a close wakes the thread that reads. Closing either end again does nothing.
 fn close_wakes<R>(rt: &R, alloc: Global, site: Site) -> Result<bool, Fail>
 where
     R: Files + Net<Listener = TcpListener, Stream = TcpStream> + Threads + Clock + Sync,
@@ -59,7 +59,8 @@ fn close_wakes_who_reads(rt: HostRuntime) -> Tested {
     check(at_port && close_wakes(&rt, rt.alloc(), Site::Path("reads.sock"))?)
 }
 
-/// Returns whether an end of reads wakes who reads, and the other side still gets what is written.
+/// Returns whether an end of reads wakes the thread that reads, and the other side still gets the bytes that are
+/// written.
 fn shutdown_wakes<R>(rt: &R, alloc: Global, site: Site) -> Result<bool, Fail>
 where
     R: Files + Net<Listener = TcpListener, Stream = TcpStream> + Threads + Clock + Sync,
@@ -79,8 +80,8 @@ fn has_none(listener: &PipeListener) -> io::Result<bool> {
     Ok(listener.accept()?.is_none())
 }
 
-/// Returns whether a thread that waits for a connection has none once another thread closes the listener, and none comes
-/// afterwards.
+/// Returns whether a thread that waits for a connection gets none after another thread closes the listener, and no
+/// connection comes afterwards.
 fn acceptor_wakes<R>(rt: &R, listener: &PipeListener) -> Result<bool, Fail>
 where
     R: Threads + Clock + Sync,
@@ -113,7 +114,7 @@ fn close_wakes_who_accepts(rt: HostRuntime) -> Tested {
     check(at_port && accepting_ends(&rt, rt.alloc(), Site::Path("accepts.sock"))?)
 }
 
-/// A listener that a caller has bound.
+/// A listener that was bound by std is taken over.
 #[test]
 fn listeners_of_std_are_taken_over(rt: HostRuntime) -> Tested {
     let listener = PipeListener::from_tcp(TcpListener::bind(&rt, "127.0.0.1:0")?)?;

@@ -8,21 +8,21 @@ use std::test::Fail;
 use std::time::Duration;
 use ttrpc_transport::{ClientConnection, PipeConnection, PipeListener};
 
-/// Where a test listens: at a free port, or at this path.
+/// The place where a test listens: at a free port, or at this path.
 #[derive(Clone, Copy)]
 pub enum Site {
     Port,
     Path(&'static str),
 }
 
-/// A listener, and the address at which it is found.
+/// A listener, and its address.
 #[derive(Drop)]
 pub struct Listening {
     pub listener: PipeListener,
     pub address: String,
 }
 
-/// A client's connection, as it is read and written, and the other side's end.
+/// A client's connection, the pipe to read and write it, and the other side's end.
 #[derive(Drop)]
 pub struct Pair {
     pub client: ClientConnection,
@@ -30,18 +30,18 @@ pub struct Pair {
     pub accepted: PipeConnection,
 }
 
-/// A while in which another thread comes to wait.
+/// Returns a duration in which another thread comes to wait.
 pub fn a_while() -> Duration {
     Duration::from_millis(20)
 }
 
-/// The address at which a listener by TCP is found.
+/// Returns the address of a listener by TCP.
 pub fn address_of(alloc: Global, listener: &PipeListener) -> Result<String, Fail> {
     let address = listener.local_addr()?.ok_or("no port")?;
     Ok(format!(in alloc; "tcp://{address}")?)
 }
 
-/// A listener at the site. Its connections send their writes at once.
+/// Returns a listener at the site. Its connections send their writes at once.
 pub fn listen<R>(rt: &R, alloc: Global, site: Site) -> Result<Listening, Fail>
 where
     R: Files + Net<Listener = TcpListener, Stream = TcpStream>,
@@ -61,7 +61,7 @@ where
     }
 }
 
-/// A connection to the listener.
+/// Connects to the listener, and returns both ends.
 pub fn join<R>(rt: &R, alloc: Global, listener: &PipeListener, address: &str) -> Result<Pair, Fail>
 where
     R: Net<Stream = TcpStream>,
@@ -76,7 +76,7 @@ where
     })
 }
 
-/// A connection to a listener at the site. A file that was made is gone again.
+/// Connects to a listener at the site, and returns both ends. If a file was made, it is removed again.
 pub fn connect<R>(rt: &R, alloc: Global, site: Site) -> Result<Pair, Fail>
 where
     R: Files + Net<Listener = TcpListener, Stream = TcpStream>,
@@ -89,7 +89,7 @@ where
     )
 }
 
-/// Removes the file at the site, behind what was done there.
+/// Removes the file at the site, and returns the result.
 pub fn clean_behind<R: Files, T: Drop>(
     rt: &R,
     site: Site,

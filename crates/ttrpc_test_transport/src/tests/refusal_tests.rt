@@ -1,4 +1,4 @@
-//! Addresses at which nothing is bound or connected.
+//! Addresses where no listener can be bound, or no connection can be made.
 
 use crate::tests::address_tests::is_refused;
 use crate::tests::pairs::{Site, address_of, clean_behind};
@@ -12,7 +12,7 @@ use ttrpc_bench::checks::{Tested, check, check_named};
 use ttrpc_proto::{Error, Result as Answer};
 use ttrpc_transport::{ClientConnection, PipeListener};
 
-/// Addresses that name no place, each with what refuses it, of that the beginning where the rest is std's.
+/// Addresses that name no place, each with its error. If the error ends with std's text, only its beginning is given.
 const REFUSED: &[(&str, &str)] = &[
     ("vsock://3:1024", "vsock is not supported"),
     ("unix://@a", "abstract unix names are not supported"),
@@ -47,7 +47,7 @@ fn is_fault<T: Drop>(answer: Answer<T>, expected: ErrorKind) -> Result<bool, Fai
     }
 }
 
-/// Returns whether nobody can listen at the address.
+/// Returns whether the address is in use, so that no listener can be bound there.
 fn is_in_use<R>(rt: &R, alloc: Global, address: &str) -> Result<bool, Fail>
 where
     R: Files + Net<Listener = TcpListener, Stream = TcpStream>,
@@ -56,7 +56,7 @@ where
     is_fault(bound, ErrorKind::AddrInUse)
 }
 
-/// Returns whether nobody listens at the address.
+/// Returns whether a connection to the address fails with this kind, since nobody listens there.
 fn is_alone<R>(rt: &R, alloc: Global, address: &str, expected: ErrorKind) -> Result<bool, Fail>
 where
     R: Net<Stream = TcpStream>,
@@ -65,7 +65,7 @@ where
     is_fault(connected, expected)
 }
 
-/// A file that is there is left as it is.
+/// An existing file is left as it is.
 #[test]
 fn a_file_is_not_replaced(rt: HostRuntime) -> Tested {
     fs::write(&rt, "file.sock", "a file")?;
@@ -76,7 +76,7 @@ fn a_file_is_not_replaced(rt: HostRuntime) -> Tested {
     check(is_in_use && &text[..count] == b"a file".as_slice())
 }
 
-/// So is the file of a listener, also once the listener is closed.
+/// The file of a listener is left as it is, too, even after the listener is closed.
 #[test]
 fn a_listeners_file_stays(rt: HostRuntime) -> Tested {
     let alloc = rt.alloc();
@@ -89,7 +89,7 @@ fn a_listeners_file_stays(rt: HostRuntime) -> Tested {
     check(clean_behind(&rt, Site::Path("stays.sock"), after)? && before)
 }
 
-/// Nobody listens at a path where there is nothing, nor at a port whose listener is gone.
+/// Nobody listens at a path without a file, and nobody listens at a port after its listener is gone.
 #[test]
 fn nobody_listens(rt: HostRuntime) -> Tested {
     let alloc = rt.alloc();

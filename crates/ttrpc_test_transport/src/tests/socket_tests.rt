@@ -12,7 +12,7 @@ use ttrpc_bench::checks::{Tested, check};
 use ttrpc_proto::{Error, Result as Answer, fill, write_part};
 use ttrpc_transport::{ClientConnection, PipeConnection, Stream};
 
-/// Returns whether bytes pass both ways, and one end is at its end once the other is closed.
+/// Returns whether bytes pass both ways, and one end is at its end after the other is closed.
 fn bytes_pass<R>(rt: &R, alloc: Global, site: Site) -> Result<bool, Fail>
 where
     R: Files + Net<Listener = TcpListener, Stream = TcpStream>,
@@ -30,7 +30,7 @@ fn bytes_pass_both_ways(rt: HostRuntime) -> Tested {
     check(at_port && bytes_pass(&rt, rt.alloc(), Site::Path("both_ways.sock"))?)
 }
 
-/// Two ends at no address, of which the first doesn't wait: where it would, its calls answer so at once.
+/// Returns two ends without an address. The first one doesn't wait: if a call would block, it fails at once.
 fn hasty<R: Net>(rt: &R) -> Result<(PipeConnection, PipeConnection), Fail> {
     let (one, other) = UnixStream::pair(rt)?;
     one.set_nonblocking(true)?;
@@ -40,7 +40,7 @@ fn hasty<R: Net>(rt: &R) -> Result<(PipeConnection, PipeConnection), Fail> {
     ))
 }
 
-/// A read for which nothing is there yet is tried again, also where the connection is a reader like any other.
+/// A read without bytes is tried again, even if the connection is used as any reader.
 #[test]
 fn reads_that_would_block_are_tried_again(rt: HostRuntime) -> Tested {
     let ends = hasty(&rt)?;
@@ -58,7 +58,7 @@ fn reads_that_would_block_are_tried_again(rt: HostRuntime) -> Tested {
     check(written == 4 && &buffer == b"late")
 }
 
-/// The same of writes, of more bytes than the socket holds.
+/// The same for writes, with more bytes than the socket holds.
 #[test]
 fn writes_that_would_block_are_tried_again(rt: HostRuntime) -> Tested {
     let ends = hasty(&rt)?;
@@ -74,7 +74,7 @@ fn writes_that_would_block_are_tried_again(rt: HostRuntime) -> Tested {
     check(read? == 400_000)
 }
 
-/// How many of the next bytes are this one, of so many that come.
+/// Returns how many of the next bytes are this one. It stops after `all` of them.
 fn count_of(reader: &PipeConnection, byte: u8, all: usize) -> Answer<usize> {
     let mut count = 0usize;
     let mut buffer = [0u8; 4096];
@@ -97,7 +97,7 @@ fn sends_at_once(end: PipeConnection) -> Result<bool, Fail> {
     }
 }
 
-/// Each end by TCP sends its writes at once where it is told to.
+/// Each end by TCP sends its writes at once if it is set to.
 #[test]
 fn delay_is_off_where_it_is_told(rt: HostRuntime) -> Tested {
     let Pair {
@@ -109,7 +109,7 @@ fn delay_is_off_where_it_is_told(rt: HostRuntime) -> Tested {
     check(sends_at_once(accepted)? && at_once)
 }
 
-/// Whether something is there to be read: before bytes came, once they did, and once they were read.
+/// Returns whether there is something to be read: before bytes came, after they came, and after they were read.
 fn readiness(rt: &impl Clock, pair: &Pair) -> Answer<[bool; 3]> {
     let before = is_ready(&pair.client)?;
     pair.accepted.write(b"ping")?;
@@ -126,7 +126,8 @@ fn is_ready(client: &ClientConnection) -> Answer<bool> {
     }
 }
 
-/// Returns whether it is told what came. Its receiver is closed then, which ends nothing else.
+/// Returns whether the client is ready exactly when bytes are there. Its receiver is closed then, which ends nothing
+/// else.
 fn ready_tells<R>(rt: &R, alloc: Global, site: Site) -> Result<bool, Fail>
 where
     R: Files + Net<Listener = TcpListener, Stream = TcpStream> + Clock,
@@ -155,7 +156,7 @@ fn is_closed(alloc: Global, client: &ClientConnection) -> Result<bool, Fail> {
     }
 }
 
-/// The other side's end is told as something that came.
+/// The other side's end is reported as something to be read.
 #[test]
 fn ready_tells_the_end(rt: HostRuntime) -> Tested {
     let (one, other) = UnixStream::pair(&rt)?;

@@ -1,4 +1,4 @@
-//! Requests and responses that generic code makes: what a caller knows of them at their own types, by the clauses.
+//! Requests and responses that generic code makes: the clauses give a caller their values at its own types.
 ghost use Rattle.std.specs.Prelude.{◌≡◌, string_bytes, IfOk, Some};
 ghost use Rattle.ttrpc_proto.specs.Messages.{non_ok_of};
 
@@ -8,7 +8,7 @@ use std::test::Fail;
 use ttrpc_bench::checks::{Tested, check, check_row};
 use ttrpc_proto::{KeyValue, Request, RequestInit, Response, ResponseInit, Status};
 
-/// What is made of these parts.
+/// Returns the request that is made of these parts.
 fn asked<R: RequestInit>(
     alloc: Global,
     names: (String, String),
@@ -16,15 +16,15 @@ fn asked<R: RequestInit>(
     metadata: Vec<KeyValue>,
     payload: Vec<u8>,
 ) -> R
-    ensures { result ≡ R.with_payload
-        (R.made (string_bytes names.0) (string_bytes names.1) timeout_nano metadata.items) payload.items }
+    ensures { result ≡ R.with_payload (R.made (string_bytes names.0)
+        (string_bytes names.1) timeout_nano metadata.items) payload.items }
 {
     let mut request = R::init_request(alloc, names.0, names.1, timeout_nano, metadata);
     request.set_payload(payload);
     request
 }
 
-/// At its own type it is known member by member.
+/// Returns the same as a `Request`. Its clauses give each member.
 fn asked_request(
     alloc: Global,
     names: (String, String),
@@ -43,7 +43,7 @@ fn asked_request(
     asked(alloc, names, timeout_nano, metadata, payload)
 }
 
-/// What is made of a first status, and then given a payload and a second status.
+/// Returns the response that is made with a first status, and then gets a payload and a second status.
 fn answered<R: ResponseInit>(alloc: Global, first: Status, second: Status, payload: Vec<u8>) -> R
     ensures { result ≡ R.with_status (R.with_payload (R.made first) payload.items) second }
 {
@@ -53,21 +53,22 @@ fn answered<R: ResponseInit>(alloc: Global, first: Status, second: Status, paylo
     response
 }
 
-/// Why the call failed, if it did.
+/// Returns why the call failed, if it did.
 fn refused<R: ResponseInit>(response: &R) -> Result<Option<Status>, AllocError>
     ensures { IfOk result (λ status. status ≡ R.refusal response.now) }
 {
     response.non_ok()
 }
 
-/// At its own type it is known member by member.
+/// Returns the same as a `Response`. Its clauses give each member.
 fn answered_response(
     alloc: Global,
     first: Status,
     second: Status,
     payload: Vec<u8>,
 ) -> Result<(Response, Option<Status>), AllocError>
-    ensures made { IfOk result (λ r. r.0 ≡ record { status = Some second; payload = payload.items }) }
+    ensures made { IfOk result
+        (λ r. r.0 ≡ record { status = Some second; payload = payload.items }) }
     ensures refused { IfOk result (λ r. r.1 ≡ non_ok_of (Some second)) }
 {
     let response: Response = answered(alloc, first, second, payload);
@@ -75,7 +76,7 @@ fn answered_response(
     Ok((response, status))
 }
 
-/// The request that is made of these parts.
+/// Returns the request that is made of these parts.
 fn made(alloc: Global, row: &RequestRow) -> Result<Request, Fail> {
     let service = String::from_str(alloc, row.service)?;
     let method = String::from_str(alloc, row.method)?;
@@ -102,7 +103,7 @@ fn a_request_is_made(rt: HostRuntime) -> Tested {
     check(made(rt.alloc(), &row)? == request_of(rt.alloc(), &row)?)
 }
 
-/// Returns whether the code of a second status alone says whether the call failed.
+/// Returns whether the code of a second status alone decides whether the call failed.
 fn is_answered(alloc: Global, code: i32) -> Result<bool, Fail> {
     let first = status_of(alloc, &(5, "first", &[]))?;
     let second = status_of(alloc, &(code, "x", &[]))?;

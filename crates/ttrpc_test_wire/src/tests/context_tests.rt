@@ -1,4 +1,4 @@
-//! Contexts: how long a request may take, its metadata, and the pairs of an envelope that these are.
+//! Contexts: the timeout of a request, its metadata, and the pairs of the envelope that encode the metadata.
 use std::alloc::Global;
 use std::collections::BTreeMap;
 use std::test::Fail;
@@ -8,13 +8,13 @@ use ttrpc_message::{Context, from_pb, to_pb, with_duration, with_metadata, with_
 use ttrpc_proto::{Error, KeyValue};
 use ttrpc_wire::{Text, TryClone};
 
-/// What is done to a context.
+/// A step on a context.
 enum Step {
     Add(&'static str, &'static str),
     Set(&'static str, &'static [&'static str]),
 }
 
-/// Steps from a context without metadata on, and the texts of each key in the end.
+/// Steps from a context without metadata on, and the resulting texts of each key.
 const STEPS: &[(&[Step], &[(&str, &[&str])])] = &[
     (&[], &[]),
     (
@@ -75,7 +75,7 @@ fn are_texts(found: &[String], texts: &[&str]) -> bool {
     all
 }
 
-/// Returns whether the map has these texts under these keys, and no other key.
+/// Returns whether the map has these keys with these texts, and no other key.
 fn has(metadata: &BTreeMap<String, Vec<String>>, expected: &[(&str, &[&str])]) -> bool {
     let mut all = metadata.len() == expected.len();
     for &(key, texts) in expected {
@@ -88,12 +88,13 @@ fn has(metadata: &BTreeMap<String, Vec<String>>, expected: &[(&str, &[&str])]) -
     all
 }
 
-/// Returns whether the context has these texts and this limit.
+/// Returns whether the context has these texts and this timeout.
 fn carries(context: &Context, expected: &[(&str, &[&str])], timeout_nano: i64) -> bool {
     has(&context.metadata, expected) && context.timeout_nano == timeout_nano
 }
 
-/// Returns whether these steps lead to a context of these texts, whose copy has them, too, and so has one of its metadata.
+/// Returns whether these steps lead to a context with these texts. Its copy must have them, too, and so must a context
+/// with its metadata.
 fn leads_to(alloc: Global, steps: &[Step], expected: &[(&str, &[&str])]) -> Result<bool, Fail> {
     let mut context = with_timeout(alloc, 5);
     for step in steps {
@@ -122,7 +123,7 @@ fn contexts_print_what_they_carry(rt: HostRuntime) -> Tested {
     check(printed.as_str() == expected)
 }
 
-/// Durations by seconds and nanoseconds, and as many nanoseconds where an `i64` holds these.
+/// Durations in seconds and nanoseconds, and the number of nanoseconds if it fits in an `i64`.
 const DURATIONS: &[(u64, u32, Option<i64>)] = &[
     (0, 0, Some(0)),
     (1, 5, Some(1000000005)),
@@ -131,7 +132,7 @@ const DURATIONS: &[(u64, u32, Option<i64>)] = &[
     (18446744073709551615, 999999999, None),
 ];
 
-/// Returns whether the duration is so many nanoseconds, or is refused if no number is given.
+/// Returns whether the duration is this number of nanoseconds, or is refused if no number is given.
 fn is_as_long(alloc: Global, duration: Duration, expected: Option<i64>) -> Result<bool, Fail> {
     match (with_duration(alloc, duration), expected) {
         (Ok(context), Some(wanted)) => Ok(context.timeout_nano == wanted),
@@ -150,7 +151,7 @@ fn durations_fit_or_are_refused(rt: HostRuntime) -> Tested {
     Ok(())
 }
 
-/// Pairs, the texts of each key in the metadata that they are, and the pairs that this is again.
+/// Pairs, the metadata that they encode, with the texts of each key, and the pairs that encode this metadata again.
 const PAIRS: &[(&[(&str, &str)], &[(&str, &[&str])], &[(&str, &str)])] = &[
     (&[], &[], &[]),
     (
@@ -158,7 +159,7 @@ const PAIRS: &[(&[(&str, &str)], &[(&str, &[&str])], &[(&str, &str)])] = &[
         &[("test_key1", &["test_value1"])],
         &[("test_key1", "test_value1")],
     ),
-    // keys in the order of their bytes, and each with its values in theirs
+    // keys in the order of their bytes, and each with its values in their order
     (
         &[("b", "1"), ("a", "2"), ("b", "0"), ("B", "3"), ("", "4")],
         &[
@@ -181,7 +182,7 @@ fn pairs_of(alloc: Global, rows: &[(&str, &str)]) -> Result<Vec<KeyValue>, Fail>
     Ok(pairs)
 }
 
-/// Returns whether the pairs are metadata of these texts, which are these pairs again.
+/// Returns whether the pairs encode metadata with these texts, and the metadata is encoded as the pairs `again`.
 fn are_metadata(
     alloc: Global,
     rows: &[(&str, &str)],
@@ -203,7 +204,7 @@ fn pairs_are_metadata(rt: HostRuntime) -> Tested {
     Ok(())
 }
 
-/// A key of an empty list has no pair.
+/// A key with an empty list has no pair.
 #[test]
 fn no_texts_are_no_pairs(rt: HostRuntime) -> Tested {
     let alloc = rt.alloc();

@@ -1,4 +1,4 @@
-//! The codes of a status, what each error prints, and the statuses, errors and responses that are made of one.
+//! The codes of a status, the text of each error, and the statuses, errors and responses that are made of an error.
 ghost use Rattle.std.specs.Prelude.{◌≡◌, codes, MatchResult, IfErr, IsErrAnd};
 ghost use Rattle.ttrpc_proto.specs.ErrorText.{error_text, IsOthers};
 
@@ -14,7 +14,7 @@ use ttrpc_proto::{
 };
 use ttrpc_wire::{Code, TryClone};
 
-/// What is found out of a condition, where memory may be refused.
+/// The result of a condition, if memory isn't refused.
 type Found = std::result::Result<bool, Fail>;
 
 /// The codes, in the order of their numbers.
@@ -38,10 +38,10 @@ const CODES: [Code; 17] = [
     Code::UNAUTHENTICATED,
 ];
 
-/// Numbers of no code.
+/// Numbers that are no code.
 const NO_CODES: &[i32] = &[17, 258, 2147483647, -1, -2147483648];
 
-/// Returns whether a status of this number has this code.
+/// Returns whether a status with this number has this code.
 fn stands_for(alloc: Global, number: i32, code: Code) -> Found {
     Ok(status_of(alloc, &(number, "", &[]))?.code() == code)
 }
@@ -59,7 +59,7 @@ fn codes_have_their_numbers(rt: HostRuntime) -> Tested {
     Ok(())
 }
 
-/// Errors, what each prints, and the code and message of the response that it becomes.
+/// Errors, the text of each, and the code and message of the response that it becomes.
 const ERRORS: &[(ErrorRow, &str, i32, &str)] = &[
     (
         ErrorRow::Socket("broken"),
@@ -108,7 +108,7 @@ const ERRORS: &[(ErrorRow, &str, i32, &str)] = &[
     ),
 ];
 
-/// Whether a response has an empty message, as it has where memory for its text was refused.
+/// Returns whether a response has an empty message, as it does if memory for the text was refused.
 fn has_no_message(response: &Response) -> bool {
     match &response.status {
         None => false,
@@ -116,7 +116,8 @@ fn has_no_message(response: &Response) -> bool {
     }
 }
 
-/// Returns whether the error prints so, its copy is equal, and it becomes this response, also if its text is never left out.
+/// Returns whether the error has this text, its copy is equal, and it becomes this response in either conversion. If a
+/// response lacks the text, memory was refused, and that is the test's error.
 fn is_told(alloc: Global, row: &(ErrorRow, &'static str, i32, &'static str)) -> Found {
     let (error, printed, code, message) = row;
     let error = error_of(alloc, error)?;
@@ -130,7 +131,7 @@ fn is_told(alloc: Global, row: &(ErrorRow, &'static str, i32, &'static str)) -> 
     Ok(is_printed && is_told && is_response(alloc, &response, *code, *message)?)
 }
 
-/// Returns whether the error prints so, by either call, and its copy is equal.
+/// Returns whether the error has this text, in either call, and its copy is equal.
 fn is_printed(alloc: Global, error: &Error, printed: &str) -> Found {
     let shown = error.to_string(alloc)?;
     let text = error.text(alloc)?;
@@ -138,7 +139,7 @@ fn is_printed(alloc: Global, error: &Error, printed: &str) -> Found {
     Ok(shown.as_str() == printed && text.as_str() == printed && copy == *error)
 }
 
-/// Returns whether it is a response of this status alone.
+/// Returns whether it is a response with this status alone.
 fn is_response(alloc: Global, response: &Response, code: i32, message: &'static str) -> Found {
     let expected = response_of(alloc, &(Some((code, message, &[])), b""))?;
     Ok(*response == expected)
@@ -198,7 +199,7 @@ const KINDS: [ErrorKind; 42] = [
     ErrorKind::Uncategorized,
 ];
 
-/// Returns whether an error of the system prints its kind as std does.
+/// Returns whether an error of the system has the text that std gives its kind.
 fn prints_as_std(alloc: Global, kind: ErrorKind) -> Found {
     let printed = Error::Nix(kind).text(alloc)?;
     let expected = format!(in alloc; "Nix error: {kind}")?;
@@ -213,7 +214,7 @@ fn kinds_print_as_std_prints_them(rt: HostRuntime) -> Tested {
     Ok(())
 }
 
-// Only memory is an error here, and the clause sees which error the `?` makes of it.
+// Refused memory is the only error here, and the clause states the error that `?` makes of it.
 fn pushed(items: &mut Vec<u8>, item: u8) -> Result<()>
     ensures { IfErr result (λ e. e ≡ Error.NoMemory) }
 {
@@ -237,7 +238,7 @@ fn is_error(alloc: Global, error: Error, expected: ErrorRow) -> Found {
     Ok(error == error_of(alloc, &expected)?)
 }
 
-/// Returns whether it went wrong so.
+/// Returns whether the outcome is this error.
 fn is_refused<T: Drop>(alloc: Global, outcome: Result<T>, expected: ErrorRow) -> Found {
     match outcome {
         Ok(_) => Ok(false),
@@ -255,7 +256,7 @@ fn statuses_and_errors_are_made(rt: HostRuntime) -> Tested {
     check(is_made && is_aborted)
 }
 
-/// Returns whether a socket's error behind so many bytes is this.
+/// Returns whether a socket's error after `size` bytes is this one.
 fn is_of_socket(alloc: Global, size: usize, expected: ErrorRow) -> Found {
     let error = sock_error_msg(size, String::from_str(alloc, "short")?);
     is_error(alloc, error, expected)
@@ -268,7 +269,7 @@ fn errors_of_sockets_are_made(rt: HostRuntime) -> Tested {
     check(gone && cut)
 }
 
-// What the closure of `err_to_others!` makes is known where it is used.
+// The clause states the result of the closure that `err_to_others!` makes.
 fn called(alloc: Global, outcome: Result<u8>) -> Result<u8>
     ensures { MatchResult outcome (λ n. result ≡ Ok n)
         (λ e. IsErrAnd result (IsOthers (codes "calling: ") (error_text e))) }
@@ -276,7 +277,7 @@ fn called(alloc: Global, outcome: Result<u8>) -> Result<u8>
     outcome.map_err(err_to_others!(alloc, e, "calling: "))
 }
 
-/// Returns whether what is no number is refused with a text before the cause.
+/// Returns whether a text that is no number is refused with a text before the cause.
 fn is_no_number(alloc: Global) -> Found {
     let parsed = "x"
         .parse::<u8>()
@@ -285,7 +286,7 @@ fn is_no_number(alloc: Global) -> Found {
     is_refused(alloc, parsed, ErrorRow::Others(text))
 }
 
-/// Returns whether an error that is called for has a text before it, and a number none.
+/// Returns whether an error gets the text before it, and a number stays as it is.
 fn is_called(alloc: Global) -> Found {
     let text = "calling: ttrpc err: remote stream closed";
     let error = called(alloc, Err(Error::RemoteClosed));
@@ -303,12 +304,12 @@ fn other_errors_are_taken(rt: HostRuntime) -> Tested {
 
 const TOO_LONG: &str = "message length 4194305 exceed maximum message size of 4194304";
 
-/// Returns whether a message of this length may be sent, be it answered or not.
+/// Returns whether a message of this length may be sent, whether its refusal would be answered or not.
 fn is_fitting(alloc: Global, length: usize) -> bool {
     check_oversize(alloc, length, true).is_ok() && check_oversize(alloc, length, false).is_ok()
 }
 
-/// Returns whether a message of this length is refused so, by whether the refusal is answered.
+/// Returns whether a message of this length is refused with this error, by whether the refusal is answered.
 fn is_too_long(alloc: Global, length: usize, answered: bool, expected: ErrorRow) -> Found {
     is_refused(alloc, check_oversize(alloc, length, answered), expected)
 }

@@ -1,4 +1,4 @@
-//! The protocol's example of a header, its edges, and the headers that are made.
+//! The protocol's example of a header, edge cases, and the headers that are made.
 use std::alloc::Global;
 use std::test::Fail;
 use ttrpc_bench::checks::{Tested, check, check_row};
@@ -46,7 +46,7 @@ fn headers_are_written_and_read(rt: HostRuntime) -> Tested {
     Ok(())
 }
 
-/// Eleven bytes, nine and none.
+/// The first ten of eleven bytes are a header, and nine bytes and none are not.
 #[test]
 fn a_header_is_read_from_ten_bytes() -> Tested {
     let bytes = [0, 0, 0, 1, 0, 0, 1, 0, 3, 4, 0xaa];

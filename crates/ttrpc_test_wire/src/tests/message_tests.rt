@@ -1,4 +1,4 @@
-//! The envelope's messages as bytes, and what those bytes mean.
+//! The envelope's messages as bytes, and the meaning of those bytes.
 use crate::tests::rows::{
     RequestRow, ResponseRow, Row, StatusRow, any_of, key_value_of, request_of, response_of,
     status_of,
@@ -11,10 +11,10 @@ use ttrpc_proto::{Any, KeyValue, Request, Response, Status};
 use ttrpc_wire::codec::in_place::{CarriesPayload, decode_in_place};
 use ttrpc_wire::{Blob, Codec, CodecError, TryClone};
 
-/// What is found out of a condition, where memory may be refused.
+/// The result of a condition, if memory isn't refused.
 type Found = Result<bool, Fail>;
 
-/// A request that has no member.
+/// A request without members.
 const NOTHING_ASKED: RequestRow = RequestRow {
     service: "",
     method: "",
@@ -91,19 +91,19 @@ const READ: &[(&[u8], Row)] = &[
         b"\x0a\x04\x08\x03\x1a\x00\x0a\x03\x12\x01x\x0a\x04\x08\x05\x1a\x00",
         Row::Response((Some((5, "x", &[("", b""), ("", b"")])), b"")),
     ),
-    // the last scalar wins, longer varints are read, and an int32 has the low 32 bits
+    // the last scalar wins, longer varints are read, and an int32 is the low 32 bits
     (
         b"\x08\x01\x12\x01a\x08\x82\x80\x80\x80\x10\x12\x01b\x08\x83\x00",
         Row::Status((3, "b", &[])),
     ),
     (b"\x08\x85\x80\x80\x80\x10", Row::Status((5, "", &[]))),
-    // unknown numbers and other wire types mean nothing
+    // unknown numbers and other wire types are ignored
     (
         b"\x0a\x01k\x08\x07\x0d\x01\x02\x03\x04\x09\x01\x02\x03\x04\x05\x06\x07\x08\x12\x01v\x1a\x01x\xf8\x01\x05",
         Row::KeyValue("k", "v"),
     ),
     (b"\x0a\x01a\x10\x05", Row::Status((0, "", &[]))),
-    // the last payload wins, wherever it lies, and a number under its number is none
+    // the last payload wins, wherever it is, and a number with its field number is none
     (
         b"\x1a\x01\x07\x0a\x01s\x1a\x02\x05\x06\x18\x09\x12\x01m",
         Row::Request(RequestRow {
@@ -123,9 +123,9 @@ const READ: &[(&[u8], Row)] = &[
     ),
 ];
 
-/// Bytes that mean no message of the type of the row beside them.
+/// Bytes that mean no message of the type of the row with them.
 const REFUSED: &[(&[u8], Row, CodecError)] = &[
-    // a text that isn't UTF-8, also where a later one follows
+    // a text that isn't UTF-8, even if a later one follows
     (
         b"\x0a\x01\xff\x0a\x01k",
         Row::KeyValue("", ""),
@@ -156,20 +156,21 @@ const REFUSED: &[(&[u8], Row, CodecError)] = &[
     ),
 ];
 
-/// Returns whether the bytes mean the value. It is asked through the bound alone.
+/// Returns whether the bytes mean the value. Only the calls of the bound are used.
 fn reads<C: Codec<E = CodecError> + PartialEq>(alloc: Global, bytes: &[u8], value: &C) -> Found {
     let read = C::decode(alloc, bytes)?;
     Ok(read == *value)
 }
 
-/// Returns whether the value's copy is equal to it, also if no bytes are merged into it.
+/// Returns whether the value's copy is equal to it, even after no bytes are merged into it.
 fn is_copied<C: Codec<E = CodecError> + PartialEq + TryClone>(alloc: Global, value: &C) -> Found {
     let mut copy = value.try_clone()?;
     copy.merge(alloc, &[])?;
     Ok(copy == *value)
 }
 
-/// Returns whether the value has this size and this written form, which means it, and nothing more changes it.
+/// Returns whether the value has this size and this written form, and the written form means the value. Merging no more
+/// bytes must not change it.
 fn travels<C: Codec<E = CodecError> + PartialEq + TryClone>(
     alloc: Global,
     value: &C,
@@ -194,14 +195,14 @@ fn refuses<C: Codec<E = CodecError>>(alloc: Global, bytes: &[u8], expected: Code
     is_error(C::decode(alloc, bytes), expected)
 }
 
-/// Returns whether the bytes mean no such value, read in place or not.
+/// Returns whether the bytes mean no such value, whether they are read in place or not.
 fn refuses_in_place<C: CarriesPayload>(alloc: Global, bytes: &[u8], expected: CodecError) -> Found {
     let is_refused = refuses::<C>(alloc, bytes, expected)?;
     let outcome = decode_in_place::<C>(alloc, Vec::from_slice(alloc, bytes)?);
     Ok(is_refused && is_error(outcome, expected)?)
 }
 
-/// What a row is asked: to travel as its written form, or to be what other bytes mean.
+/// The check of a row: its written form, or other bytes with the same meaning.
 #[derive(Clone, Copy)]
 enum Asked {
     Travels(&'static [u8]),
@@ -234,7 +235,7 @@ fn status_is_so(alloc: Global, row: &StatusRow, asked: Asked) -> Found {
     is_so(alloc, &status, asked)
 }
 
-/// Returns whether the row holds, and a payload that stays where it lies is the same payload.
+/// Returns whether the row holds, and a payload that is read in place is the same payload.
 fn is_so_in_place<C: CarriesPayload + PartialEq>(alloc: Global, value: &C, asked: Asked) -> Found {
     let is_so = is_so(alloc, value, asked)?;
     let (Asked::Travels(bytes) | Asked::IsReadFrom(bytes)) = asked;
@@ -297,7 +298,7 @@ fn bytes_without_a_meaning_are_refused(rt: HostRuntime) -> Tested {
     Ok(())
 }
 
-/// Bytes travel as they are, with no message of their own.
+/// Bytes are sent as they are, without a message of their own.
 #[test]
 fn raw_bytes_travel(rt: HostRuntime) -> Tested {
     let alloc = rt.alloc();

@@ -5,7 +5,7 @@ use ttrpc_bench::checks::{Tested, check};
 use ttrpc_proto::{KeyValue, Request};
 use ttrpc_wire::{Codec, CodecError, Field, FieldNumber, Value, put_field};
 
-/// The last value with a length of this number, or none.
+/// Returns the last length-delimited value with this number, or an empty one.
 fn last_delimited<'a>(fields: &[Field<'a>], number: u32) -> &'a [u8] {
     let mut last: &[u8] = b"";
     for field in fields {
@@ -18,7 +18,7 @@ fn last_delimited<'a>(fields: &[Field<'a>], number: u32) -> &'a [u8] {
     last
 }
 
-/// The last varint of this number, or 0.
+/// Returns the last varint with this number, or 0.
 fn last_varint(fields: &[Field<'_>], number: u32) -> u64 {
     let mut last = 0;
     for field in fields {
@@ -39,7 +39,7 @@ fn is_pair(alloc: Global, bytes: &[u8]) -> Result<bool, Fail> {
     }
 }
 
-/// Whether all texts of the two names are UTF-8, and all values of the metadata are pairs.
+/// Returns whether all service and method names are UTF-8, and all values of the metadata are pairs.
 fn has_meaning(alloc: Global, fields: &[Field<'_>]) -> Result<bool, Fail> {
     let mut all = true;
     for field in fields {
@@ -64,13 +64,13 @@ const PIECES: [&[u8]; 6] = [
     b"\x12\x01\xfe",
 ];
 
-/// The next number of a sequence that looks like chance.
+/// Returns the next number of a pseudorandom sequence.
 fn next(seed: u64) -> u64 {
     seed.wrapping_mul(6364136223846793005)
         .wrapping_add(1442695040888963407)
 }
 
-/// A field that the seed picks.
+/// Returns a field that the seed picks.
 fn field_of(seed: u64) -> Result<Field<'static>, Fail> {
     let number = FieldNumber::new((seed >> 33) as u32 % 6 + 1).ok_or("a field's number")?;
     let value = match (seed >> 40) % 8 {
@@ -103,7 +103,7 @@ fn are_read(alloc: Global, fields: &[Field<'_>]) -> Result<bool, Fail> {
     }
 }
 
-/// So many fields from the seed on, and the seed behind them.
+/// Returns `count` fields from the seed on, and the next seed.
 fn fields_from(alloc: Global, seed: u64, count: u64) -> Result<(Vec<Field<'static>>, u64), Fail> {
     let mut seed = seed;
     let mut fields = Vec::new(alloc);

@@ -1,4 +1,4 @@
-//! Messages and errors as data, and the values that they stand for.
+//! Messages and errors as data, and the values that they give.
 use std::alloc::Global;
 use std::io::ErrorKind;
 use std::test::Fail;
@@ -14,7 +14,7 @@ pub type StatusRow = (i32, &'static str, &'static [AnyRow]);
 /// A response: its status, if there is one, and its payload.
 pub type ResponseRow = (Option<StatusRow>, &'static [u8]);
 
-/// A request, its metadata as pairs.
+/// A request. Its metadata are pairs.
 #[derive(Clone, Copy, Debug)]
 pub struct RequestRow {
     pub service: &'static str,

@@ -29,7 +29,8 @@ fn is_copied(alloc: Global, text: &Text) -> Result<bool, Fail> {
     Ok(copy == *text && empty != *text && empty.is_empty())
 }
 
-/// Returns whether the text has these bytes, is equal to its copy and to no other text, and is the same behind a `String`.
+/// Returns whether the text has these bytes, and is equal to its copy and to no other text. It must stay the same
+/// through a `String`.
 fn is_kept(alloc: Global, text: Text, expected: &str) -> Result<bool, Fail> {
     let is_text = has_bytes(&text, expected) && reads_as_text(&text, expected);
     let is_shown = text.to_string(alloc)?.as_str() == expected;
@@ -47,14 +48,14 @@ fn texts(rt: HostRuntime) -> Tested {
     check(from_bytes && from_text)
 }
 
-/// Returns whether the first text stands so to the second.
+/// Returns whether the first text has this order to the second.
 fn is_ordered(alloc: Global, low: &str, high: &str, expected: Ordering) -> Result<bool, Fail> {
     let low = Text::from_str(alloc, low)?;
     let high = Text::from_str(alloc, high)?;
     Ok(low.cmp(&high) == expected)
 }
 
-/// Texts have the order of their bytes, whatever letters these are.
+/// Texts have the order of their bytes, whatever their letters are.
 #[test]
 fn texts_have_an_order(rt: HostRuntime) -> Tested {
     let rising = ["", "Z", "a", "aa", "b", "gr\u{fc}n"];
@@ -78,7 +79,7 @@ fn what_is_no_text_is_refused(rt: HostRuntime) -> Tested {
     check(Text::new(rt.alloc()).as_str().is_empty())
 }
 
-/// Returns whether the blob has these bytes, of which 255 is the first and the greatest, and reads as a slice does.
+/// Returns whether the blob has these bytes, with 255 as the first and the greatest, and reads as a slice does.
 fn reads_as_slice(blob: &Blob, bytes: &[u8]) -> bool {
     blob.as_slice() == bytes
         && blob.is_equal(bytes)
@@ -104,7 +105,7 @@ fn blobs(rt: HostRuntime) -> Tested {
     check(is_blob && back.as_slice() == bytes)
 }
 
-/// Parts of the bytes 1 to 5, by where they begin and how many bytes are asked for.
+/// Parts of the bytes 1 to 5, by their beginning and the number of bytes that is asked for.
 const PARTS: &[(usize, usize, &[u8])] = &[
     (0, 5, &[1, 2, 3, 4, 5]),
     (0, 2, &[1, 2]),
@@ -115,7 +116,7 @@ const PARTS: &[(usize, usize, &[u8])] = &[
     (usize::MAX, usize::MAX, &[]),
 ];
 
-/// Returns whether a blob of this part of the bytes 1 to 5 has these bytes, and so has its vector.
+/// Returns whether a blob of this part of the bytes 1 to 5 has these bytes, and its vector has them, too.
 fn is_part(alloc: Global, start: usize, count: usize, part: &[u8]) -> Result<bool, Fail> {
     let blob = Blob::from_part(Vec::from_slice(alloc, &[1, 2, 3, 4, 5])?, start, count);
     let copy = blob.try_clone()?;
@@ -133,7 +134,7 @@ fn parts_of_a_vector_are_blobs(rt: HostRuntime) -> Tested {
     Ok(())
 }
 
-/// A list of these texts.
+/// Returns a list of these texts.
 fn listed(alloc: Global, texts: &[&str]) -> Result<Sequence<Text>, Fail> {
     let mut list = Sequence::new(alloc);
     for text in texts {
@@ -191,7 +192,7 @@ fn are_copied() -> Result<bool, Fail> {
     )
 }
 
-/// Lists of numbers are copied and compared as others are.
+/// Lists of numbers are copied and compared as other lists are.
 #[test]
 fn sequences_of_numbers(rt: HostRuntime) -> Tested {
     let mut numbers: Sequence<i32> = Sequence::new(rt.alloc());
@@ -201,7 +202,7 @@ fn sequences_of_numbers(rt: HostRuntime) -> Tested {
     check(is_copied && numbers.is_equal(&[-1, i32::MAX]) && are_copied()?)
 }
 
-/// What a caller that asks for memory answers by `?`.
+/// Returns the result of a caller that asks for memory with `?`.
 fn reserved(alloc: Global, room: usize) -> Result<Vec<u8>, CodecError> {
     let mut out = Vec::new(alloc);
     out.reserve(room)?;

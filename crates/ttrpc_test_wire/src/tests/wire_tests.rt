@@ -1,4 +1,4 @@
-//! The encoding guide's examples, the edges, and each refusal.
+//! The encoding guide's examples, edge cases, and each refusal.
 use std::alloc::Global;
 use std::test::Fail;
 use ttrpc_bench::checks::{Tested, check, check_row};
@@ -8,7 +8,7 @@ use ttrpc_wire::{
     varint_to_int64,
 };
 
-/// Numbers, and the one varint that is written for each.
+/// Numbers, each with the varint that is written for it.
 const WRITTEN: [(u64, &[u8]); 8] = [
     (0, &[0x00]),
     (1, &[0x01]),
@@ -26,13 +26,13 @@ const WRITTEN: [(u64, &[u8]); 8] = [
     ),
 ];
 
-/// Returns whether the number is read from these bytes, and what follows them is 7 alone.
+/// Returns whether the number is read from these bytes, and only the byte 7 is left after them.
 fn leads(bytes: &[u8], n: u64) -> bool {
     let mut reader = Reader::new(bytes);
     reader.varint() == Ok(n) && reader.rest() == [7].as_slice()
 }
 
-/// Returns whether the number is written behind what is there, measured before, and read from in front of others.
+/// Returns whether the number is written after other bytes with the right length, and read before other bytes.
 fn varint_travels(alloc: Global, n: u64, bytes: &[u8]) -> Result<bool, Fail> {
     let mut out = Vec::from_slice(alloc, &[0xaa])?;
     put_varint(&mut out, n)?;
@@ -154,7 +154,7 @@ const FIELDS: [(u32, Value<'static>, &[u8]); 6] = [
     ),
 ];
 
-/// Returns whether the field is written as these bytes, measured before, and read from in front of others.
+/// Returns whether the field is written as these bytes with the right length, and read before other bytes.
 fn field_travels(alloc: Global, field: Field<'_>, bytes: &[u8]) -> Result<bool, Fail> {
     let mut out = Vec::new(alloc);
     put_field(&mut out, field)?;
@@ -163,7 +163,7 @@ fn field_travels(alloc: Global, field: Field<'_>, bytes: &[u8]) -> Result<bool, 
     Ok(is_written && is_read(out.as_slice(), field, bytes))
 }
 
-/// Returns whether the field is read from in front of these bytes, which are passed over.
+/// Returns whether the field is read before these bytes, which are then skipped as a field.
 fn is_read(twice: &[u8], field: Field<'_>, bytes: &[u8]) -> bool {
     let mut reader = Reader::new(twice);
     reader.field() == Ok(field)
@@ -173,7 +173,7 @@ fn is_read(twice: &[u8], field: Field<'_>, bytes: &[u8]) -> bool {
         && reader.is_empty()
 }
 
-/// Returns whether the field's tag is written and measured, and stands in front of its bytes.
+/// Returns whether the field's tag is written with the right length, and is at the front of the field's bytes.
 fn tag_travels(alloc: Global, field: Field<'_>, bytes: &[u8]) -> Result<bool, Fail> {
     let mut out = Vec::new(alloc);
     put_tag(&mut out, field.tag())?;
@@ -243,7 +243,7 @@ fn values_that_are_cut_are_refused() -> Tested {
     )
 }
 
-/// A length of 2^64 - 1 and one byte.
+/// A length of 2^64 - 1 with one byte is refused.
 #[test]
 fn a_length_past_the_end_is_refused() -> Tested {
     let bytes = [
@@ -265,7 +265,7 @@ fn come_back(longs: &[i64], shorts: &[i32]) -> bool {
             .all(|n| varint_to_int32(int32_to_varint(*n)) == *n)
 }
 
-/// Returns whether bits above the low 32 mean nothing where 32 are asked for.
+/// Returns whether bits above the low 32 are ignored if 32 are asked for.
 fn are_cut_to_32_bits() -> bool {
     varint_to_int32(4294967301) == 5
         && varint_to_int32(4294967295) == -1

@@ -1,16 +1,16 @@
-//! Numbers, ids and sides by chance.
+//! Random numbers, ids and sides.
 ghost use Rattle.std.specs.Prelude.{◌<◌};
 
 use ttrpc_world::{Side, StreamEnd};
 
-/// Numbers by chance, by shifts and exclusive ors.
+/// Random numbers, by shifts and exclusive ors.
 #[derive(Drop)]
 pub struct Chance {
     pub state: u64,
 }
 
 impl Chance {
-    /// A number below `n`; 0 where there is none.
+    /// Returns a number below `n`, or 0 if `n` is 0.
     pub fn below(&mut self, n: u64) -> u64
         ensures { 0 < n → result < n }
     {
@@ -23,7 +23,7 @@ impl Chance {
         self.state % n
     }
 
-    /// An odd id of one of the first calls.
+    /// Returns an odd id of one of the first calls.
     pub fn id(&mut self) -> u32 {
         (self.below(4) as u32).saturating_mul(2).saturating_add(1)
     }
@@ -32,7 +32,7 @@ impl Chance {
         self.below(4).saturating_add(1)
     }
 
-    /// The client's end of one of the first streams, or the server's.
+    /// Returns the client's end of one of the first streams, or the server's.
     pub fn end(&mut self) -> StreamEnd {
         if self.below(2) == 0 {
             StreamEnd::Client(self.id())

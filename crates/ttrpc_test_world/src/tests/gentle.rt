@@ -1,5 +1,5 @@
-//! Lists of events by chance by which nothing is refused, lost or late, and in which all comes to rest: so that many traces are
-//! clean and quiet.
+//! Random lists of events that refuse, lose and delay nothing, and that all come to rest, so that many traces are clean
+//! and quiet.
 
 use crate::tests::chance::Chance;
 use crate::tests::random_tests::{answer_by, end_by, send_by};
@@ -9,21 +9,21 @@ use std::test::Fail;
 use ttrpc_server::Rules;
 use ttrpc_world::{Event, Side, StreamEnd};
 
-/// What a call or a stream is at both sides.
+/// The kind of a call or a stream at both sides.
 #[derive(Clone, Copy)]
 struct Kind {
-    /// It is a call.
+    /// True if it is a call.
     call: bool,
-    /// Its job is a stream's.
+    /// True if its job is a stream's.
     stream: bool,
 }
 
-/// The id of the call or stream of this number, counted from 0. Its job is the next number.
+/// Returns the id of the call or the stream with this number, from 0. Its job is the next number.
 fn id_of(number: u64) -> u32 {
     (number.min(8) as u32).saturating_mul(2).saturating_add(1)
 }
 
-/// What begins: of which name, whether it is a call, and whether items are sent.
+/// The beginning of a call or a stream: its name, whether it is a call, and whether the client sends items.
 #[derive(Clone, Copy)]
 struct Asked {
     method: &'static str,
@@ -31,7 +31,7 @@ struct Asked {
     up: bool,
 }
 
-/// A call, or by chance a stream where there are streams. Each names what there is.
+/// Returns a call or the opening of a stream, at random. Each names a method or a stream that exists under these rules.
 fn asked_by(chance: &mut Chance, rules: Rules) -> Asked {
     let streams = matches!(rules, Rules::Async);
     let (method, call, up) = match chance.below(6) {
@@ -44,7 +44,7 @@ fn asked_by(chance: &mut Chance, rules: Rules) -> Asked {
     Asked { method, call, up }
 }
 
-/// Its event, by chance with a timeout that is kept.
+/// Returns its event, at random with a timeout that is kept.
 fn event_by(
     alloc: Global,
     chance: &mut Chance,
@@ -60,7 +60,7 @@ fn event_by(
     })
 }
 
-/// One begins.
+/// Adds the beginning of a call or a stream, and returns its kind.
 fn begin(alloc: Global, events: &mut Events, chance: &mut Chance, rules: Rules, id: u32) -> Kind {
     let payload = [chance.below(256) as u8];
     let asked = asked_by(chance, rules);
@@ -75,14 +75,14 @@ fn begin(alloc: Global, events: &mut Events, chance: &mut Chance, rules: Rules, 
     }
 }
 
-/// So many items are sent on an end.
+/// Adds `count` items that are sent on an end.
 fn send_items(alloc: Global, events: &mut Events, chance: &mut Chance, end: StreamEnd, count: u64) {
     for _ in 0..count {
         put_made(events, send_by(alloc, chance, end));
     }
 }
 
-/// Items are sent, and then by chance the close.
+/// Adds items that are sent, and at random the close.
 fn send_up(alloc: Global, events: &mut Events, chance: &mut Chance, id: u32) {
     let count = chance.below(4);
     send_items(alloc, events, chance, StreamEnd::Client(id), count);
@@ -91,20 +91,20 @@ fn send_up(alloc: Global, events: &mut Events, chance: &mut Chance, id: u32) {
     }
 }
 
-/// Some bytes are carried from one side and delivered to the other.
+/// Adds some bytes that are carried from one side and delivered to the other.
 fn move_some(events: &mut Events, chance: &mut Chance, from: Side, to: Side) {
     put(events, Event::Carry(from, chance.count()));
     put(events, Event::Carry(from, chance.count()));
     put(events, Event::Deliver(to, chance.count()))
 }
 
-/// All are, by these acts.
+/// Adds the moving of all bytes, by these acts.
 fn move_all(events: &mut Events, carry: Act, deliver: Act) {
     put_times(events, carry, 28);
     put_times(events, deliver, 1)
 }
 
-/// A stream's job is done.
+/// Adds the work of a stream's job.
 fn do_stream(alloc: Global, events: &mut Events, chance: &mut Chance, job: u64) {
     put_times(events, Act::RecvUp(job), 5);
     let count = chance.below(3);
@@ -112,7 +112,7 @@ fn do_stream(alloc: Global, events: &mut Events, chance: &mut Chance, job: u64) 
     put_made(events, end_by(alloc, chance, job))
 }
 
-/// A call's is, under sync rules by chance by a response.
+/// Adds the work of a call's job. Under sync rules it may be a response and an end.
 fn do_call(alloc: Global, events: &mut Events, chance: &mut Chance, rules: Rules, job: u64) {
     if matches!(rules, Rules::Sync) && chance.below(2) == 0 {
         put_made(events, respond(alloc, job, b"a"));
@@ -121,7 +121,7 @@ fn do_call(alloc: Global, events: &mut Events, chance: &mut Chance, rules: Rules
     put_made(events, answer_by(alloc, chance, job))
 }
 
-/// The job of this number is done.
+/// Adds the work of the job with this number.
 fn do_job(
     alloc: Global,
     events: &mut Events,
@@ -137,7 +137,7 @@ fn do_job(
     }
 }
 
-/// What came is asked for.
+/// Adds the requests for the results of a call or a stream.
 fn ask(events: &mut Events, id: u32, kind: Kind) {
     if kind.call {
         return put(events, Event::Outcome(id));
@@ -145,7 +145,7 @@ fn ask(events: &mut Events, id: u32, kind: Kind) {
     put_times(events, Act::Recv(id), 5)
 }
 
-/// So many bytes are carried from both sides and delivered to both, and are none.
+/// Adds a carry of `n` bytes from both sides and a delivery to both, which find no bytes.
 fn try_both(events: &mut Events, first: Side, second: Side, n: usize) {
     put(events, Event::Carry(first, n));
     put(events, Event::Carry(second, n));
@@ -153,7 +153,7 @@ fn try_both(events: &mut Events, first: Side, second: Side, n: usize) {
     put(events, Event::Deliver(first, n))
 }
 
-/// Time passes, and nothing more moves.
+/// Adds the passing of time, and carries and deliveries that find no bytes.
 fn rest(events: &mut Events, chance: &mut Chance) {
     put(events, Event::Tick(chance.below(80)));
     let n = chance.count().saturating_add(1);
@@ -164,7 +164,8 @@ fn rest(events: &mut Events, chance: &mut Chance) {
     }
 }
 
-/// The call or stream of this number begins, some bytes are moved up, and by chance time passes.
+/// Adds the beginning of the call or the stream with this number, some bytes that are moved up, and at random the
+/// passing of time.
 fn begin_and_move(
     alloc: Global,
     events: &mut Events,
@@ -178,7 +179,7 @@ fn begin_and_move(
     kind
 }
 
-/// Up to four calls and streams begin.
+/// Adds the beginnings of up to four calls and streams.
 fn begin_all(
     alloc: Global,
     events: &mut Events,
@@ -192,13 +193,13 @@ fn begin_all(
     Ok(kinds)
 }
 
-/// All that is left is moved up, and each job is taken, with one try more.
+/// Adds the moving of all other bytes up, and a take for each job, and one more.
 fn take_all(events: &mut Events, count: usize) {
     move_all(events, Act::CarryUp(4096), Act::DeliverUp(4096));
     put_times(events, Act::Take, count.saturating_add(1));
 }
 
-/// Each job is done, some bytes are moved down behind each, and all behind the last one.
+/// Adds the work of each job, some bytes that are moved down after each, and all bytes after the last one.
 fn do_all(alloc: Global, events: &mut Events, chance: &mut Chance, rules: Rules, kinds: &[Kind]) {
     for (number, kind) in kinds.iter().enumerate() {
         let job = (number as u64).saturating_add(1);
@@ -208,14 +209,14 @@ fn do_all(alloc: Global, events: &mut Events, chance: &mut Chance, rules: Rules,
     move_all(events, Act::CarryDown(4096), Act::DeliverDown(4096));
 }
 
-/// What came for each is asked for.
+/// Adds the requests for the results of each call and stream.
 fn ask_all(events: &mut Events, kinds: &[Kind]) {
     for (number, kind) in kinds.iter().enumerate() {
         ask(events, id_of(number as u64), *kind);
     }
 }
 
-/// What began is done, and is asked for; then nothing more moves.
+/// Adds the work and the requests for results, and then carries and deliveries that find no bytes.
 fn end_all(alloc: Global, events: &mut Events, chance: &mut Chance, rules: Rules, kinds: &[Kind]) {
     take_all(events, kinds.len());
     do_all(alloc, events, chance, rules, kinds);
@@ -223,10 +224,10 @@ fn end_all(alloc: Global, events: &mut Events, chance: &mut Chance, rules: Rules
     rest(events, chance);
 }
 
-/// A list of up to four calls and streams, which all come to their ends.
+/// Returns a list of up to four calls and streams, which all come to their ends.
 pub fn gentle_by(alloc: Global, chance: &mut Chance, rules: Rules) -> Result<Vec<Event>, Fail> {
     let mut events = Events::new(alloc);
     let kinds = begin_all(alloc, &mut events, chance, rules)?;
     end_all(alloc, &mut events, chance, rules, kinds.as_slice());
-    events.list()
+    Ok(events.list()?)
 }

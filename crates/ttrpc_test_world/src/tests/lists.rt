@@ -1,5 +1,5 @@
-//! The items of streams, read from a trace: what a receiver was given is a beginning of what was put in, in order, and an end
-//! comes behind all of it. Slow, and written from these sentences alone.
+//! The items of streams, read from a trace. The items that a receiver got are a beginning of the items that were sent,
+//! in order, and an end comes after all of them. The program is slow, and written from these sentences alone.
 
 use crate::tests::plainly::is_ok;
 use ttrpc_client::CallId;
@@ -8,14 +8,14 @@ use ttrpc_server::JobId;
 use ttrpc_wire::Blob;
 use ttrpc_world::{Entry, Event, Reply, StreamEnd};
 
-/// The items of one call or stream one way: to the server, or to the client.
+/// The items of one call or stream in one direction: to the server, or to the client.
 #[derive(Clone, Copy, PartialEq, Eq)]
 pub enum Way {
     Up(CallId),
     Down(CallId),
 }
 
-/// How many items and ends were given, at the server and at the client.
+/// The number of items and ends that were received, at the server and at the client.
 #[derive(Clone, Copy, PartialEq, Eq)]
 pub struct Counts {
     pub items_up: usize,
@@ -24,7 +24,7 @@ pub struct Counts {
     pub ends_down: usize,
 }
 
-/// Nothing was given.
+/// Nothing was received.
 pub const NONE: Counts = Counts {
     items_up: 0,
     ends_up: 0,
@@ -32,22 +32,22 @@ pub const NONE: Counts = Counts {
     ends_down: 0,
 };
 
-/// What was read of a trace so far: what is wrong with it, or what was given.
+/// The result of reading a trace so far: its fault, or the number of items and ends that were received.
 #[derive(Clone, Copy, PartialEq, Eq)]
 pub enum Order {
     /// All items are in order.
     Kept(Counts),
-    /// An item was given that isn't the next one that was put in.
+    /// An item was received that isn't the next one that was sent.
     OtherItem,
-    /// An end was told where nothing was closed.
+    /// An end was received though nothing was closed.
     UnclosedEnd,
-    /// An end was told before all items were given.
+    /// An end was received before all items.
     EarlyEnd,
-    /// Something was put in behind an end that was told.
+    /// Something was sent after an end was received.
     PutBehindEnd,
 }
 
-/// The stream of a job, by the place at which it was handed out.
+/// Returns the stream of a job, which is known from the entry that handed the job out.
 pub fn stream_of(trace: &[Entry], job: JobId) -> Option<CallId> {
     for entry in trace {
         if let (Event::Take, Reply::Handed(Some(handed))) = (&entry.event, &entry.reply) {
@@ -59,7 +59,7 @@ pub fn stream_of(trace: &[Entry], job: JobId) -> Option<CallId> {
     None
 }
 
-/// The way to the client of a job's stream.
+/// Returns the way to the client of a job's stream.
 fn way_down(trace: &[Entry], job: JobId) -> Option<Way> {
     match stream_of(trace, job) {
         Some(id) => Some(Way::Down(id)),
@@ -67,7 +67,7 @@ fn way_down(trace: &[Entry], job: JobId) -> Option<Way> {
     }
 }
 
-/// And the one to the server.
+/// Returns the way to the server of a job's stream.
 fn way_up(trace: &[Entry], job: JobId) -> Option<Way> {
     match stream_of(trace, job) {
         Some(id) => Some(Way::Up(id)),
@@ -75,7 +75,7 @@ fn way_up(trace: &[Entry], job: JobId) -> Option<Way> {
     }
 }
 
-/// The way on which an entry puts something in.
+/// Returns the way on which an entry sends something.
 fn way_put(trace: &[Entry], entry: &Entry) -> Option<Way> {
     match (&entry.event, &entry.reply) {
         (Event::Call(_) | Event::Open(_, _, _), Reply::Named(id)) => Some(Way::Up(*id)),
@@ -89,7 +89,7 @@ fn way_put(trace: &[Entry], entry: &Entry) -> Option<Way> {
     }
 }
 
-/// The item that a response puts in, if it says that the call ended well.
+/// Returns the item that a response sends, if its status is OK.
 fn item_of(response: &Response) -> Option<&[u8]> {
     if is_ok(response) {
         Some(response.payload.as_slice())
@@ -98,7 +98,7 @@ fn item_of(response: &Response) -> Option<&[u8]> {
     }
 }
 
-/// The item that an entry puts in, on whatever way.
+/// Returns the item that an entry sends, on any way.
 fn item_put(entry: &Entry) -> Option<&[u8]> {
     match &entry.event {
         Event::Call(request) | Event::Open(request, false, _) => Some(request.payload.as_slice()),
@@ -109,7 +109,7 @@ fn item_put(entry: &Entry) -> Option<&[u8]> {
     }
 }
 
-/// Whether an entry that puts something in closes.
+/// Returns whether an entry that sends something closes its way.
 fn closes(entry: &Entry) -> bool {
     matches!(
         &entry.event,
@@ -121,7 +121,7 @@ fn closes(entry: &Entry) -> bool {
     )
 }
 
-/// The way whose receiver was told something.
+/// Returns the way with the receiver that got something.
 fn way_told(trace: &[Entry], entry: &Entry) -> Option<Way> {
     match (&entry.event, &entry.reply) {
         (Event::Recv(StreamEnd::Client(id)), Reply::Item(Some(_))) => Some(Way::Down(*id)),
@@ -130,7 +130,7 @@ fn way_told(trace: &[Entry], entry: &Entry) -> Option<Way> {
     }
 }
 
-/// The item of this number that was put in on a way, counted from 0.
+/// Returns the item with this number, from 0, that was sent on a way.
 fn nth_put<'a>(trace: &[Entry], before: &'a [Entry], way: Way, number: usize) -> Option<&'a [u8]> {
     let mut count = 0usize;
     for entry in before {
@@ -146,7 +146,7 @@ fn nth_put<'a>(trace: &[Entry], before: &'a [Entry], way: Way, number: usize) ->
     None
 }
 
-/// Whether a way was closed.
+/// Returns whether a way was closed.
 fn is_closed(trace: &[Entry], before: &[Entry], way: Way) -> bool {
     for entry in before {
         if way_put(trace, entry) == Some(way) && closes(entry) {
@@ -156,7 +156,7 @@ fn is_closed(trace: &[Entry], before: &[Entry], way: Way) -> bool {
     false
 }
 
-/// How many items the receiver of a way was given.
+/// Returns the number of items that the receiver of a way got.
 fn given(trace: &[Entry], before: &[Entry], way: Way) -> usize {
     let mut count = 0usize;
     for entry in before {
@@ -167,7 +167,7 @@ fn given(trace: &[Entry], before: &[Entry], way: Way) -> usize {
     count
 }
 
-/// What a receiver was told last.
+/// The last result of a receiver.
 #[derive(Clone, Copy, PartialEq, Eq)]
 enum Last {
     Item,
@@ -175,8 +175,8 @@ enum Last {
     Other,
 }
 
-/// What it was told last once it is told this, too: that the other side has closed is an end directly behind an item and
-/// behind an end.
+/// Returns the receiver's last result after this reply. `RemoteClosed` is an end only directly after an item or after
+/// an end.
 fn told_last(last: Last, reply: &Reply) -> Last {
     match reply {
         Reply::Item(Some(Ok(_))) => Last::Item,
@@ -186,7 +186,7 @@ fn told_last(last: Last, reply: &Reply) -> Last {
     }
 }
 
-/// What the receiver of a way was told last, and whether an end was among all that.
+/// Returns the last result of a way's receiver, and whether one of its results was an end.
 fn told_before(trace: &[Entry], before: &[Entry], way: Way) -> (Last, bool) {
     let mut last = Last::Other;
     let mut ended = false;
@@ -199,7 +199,7 @@ fn told_before(trace: &[Entry], before: &[Entry], way: Way) -> (Last, bool) {
     (last, ended)
 }
 
-/// One more item, or one more end.
+/// Counts one more item, or one more end.
 fn counted(counts: Counts, way: Way, ends: bool) -> Counts {
     let mut counts = counts;
     match (way, ends) {
@@ -211,7 +211,7 @@ fn counted(counts: Counts, way: Way, ends: bool) -> Counts {
     counts
 }
 
-/// What an item that was given adds.
+/// Returns the effect of a received item.
 fn item_step(trace: &[Entry], before: &[Entry], way: Way, item: &Blob, counts: Counts) -> Order {
     match nth_put(trace, before, way, given(trace, before, way)) {
         Some(put) if put == item.as_slice() => Order::Kept(counted(counts, way, false)),
@@ -219,7 +219,7 @@ fn item_step(trace: &[Entry], before: &[Entry], way: Way, item: &Blob, counts: C
     }
 }
 
-/// What a word adds that is no item.
+/// Returns the effect of a result that is no item.
 fn end_step(trace: &[Entry], before: &[Entry], way: Way, entry: &Entry, counts: Counts) -> Order {
     let (last, _) = told_before(trace, before, way);
     if told_last(last, &entry.reply) != Last::End {
@@ -234,7 +234,7 @@ fn end_step(trace: &[Entry], before: &[Entry], way: Way, entry: &Entry, counts: 
     }
 }
 
-/// What one entry behind others adds.
+/// Returns the effect of one entry after others.
 fn step(trace: &[Entry], before: &[Entry], entry: &Entry, counts: Counts) -> Order {
     if let Some(way) = way_put(trace, entry) {
         let (_, ended) = told_before(trace, before, way);
@@ -251,7 +251,8 @@ fn step(trace: &[Entry], before: &[Entry], entry: &Entry, counts: Counts) -> Ord
     }
 }
 
-/// Whether an item was sent on the stream of a job that is never handed out: which stream that is, no trace says.
+/// Returns whether an item was sent on the stream of a job that is never handed out: the trace doesn't say which stream
+/// that is.
 pub fn has_unknown_sender(trace: &[Entry]) -> bool {
     for entry in trace {
         if let (Event::Send(StreamEnd::Server(job), _), Reply::Ticket(_)) = (
@@ -266,7 +267,7 @@ pub fn has_unknown_sender(trace: &[Entry]) -> bool {
     false
 }
 
-/// Whether the items of each receiver are in order at each place of a trace. The first fault is found.
+/// Returns whether the items of each receiver are in order at each place of a trace, or else the first fault.
 pub fn read_lists(trace: &[Entry]) -> Order {
     let mut counts = NONE;
     for (at, entry) in trace.iter().enumerate() {
@@ -278,12 +279,12 @@ pub fn read_lists(trace: &[Entry]) -> Order {
     Order::Kept(counts)
 }
 
-/// Whether the receiver of a way was told of an end.
+/// Returns whether the receiver of a way got an end.
 pub fn was_ended(trace: &[Entry], way: Way) -> bool {
     told_before(trace, trace, way).1
 }
 
-/// The item of this number that the receiver of a way was given, counted from 0.
+/// Returns the item with this number, from 0, that the receiver of a way got.
 fn nth_given<'a>(trace: &'a [Entry], way: Way, number: usize) -> Option<&'a [u8]> {
     let mut count = 0usize;
     for entry in trace {
@@ -299,7 +300,7 @@ fn nth_given<'a>(trace: &'a [Entry], way: Way, number: usize) -> Option<&'a [u8]
     None
 }
 
-/// Whether the receiver of a way was given exactly what was put in.
+/// Returns whether the receiver of a way got exactly the items that were sent.
 pub fn all_given(trace: &[Entry], way: Way) -> bool {
     for number in 0..=trace.len() {
         match (

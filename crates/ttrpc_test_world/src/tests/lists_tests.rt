@@ -1,4 +1,4 @@
-//! Traces made by hand, whose items are in order or aren't: the plain program finds each fault.
+//! Traces made by hand, with items that are in order or aren't: the plain program finds each fault.
 
 use crate::tests::lists::{Counts, NONE, Order, has_unknown_sender, read_lists};
 use crate::tests::made::trace_of;
@@ -12,7 +12,7 @@ use ttrpc_world::Entry;
 
 type Tested = Result<(), Fail>;
 
-/// Both receivers of a stream are given all, and their ends.
+/// Both receivers of a stream get all items, and their ends.
 const GIVEN: Rows = &[
     (Open("Chat"), Named(1)),
     (Send(1, b"a"), Ticket(1)),
@@ -31,7 +31,7 @@ const GIVEN: Rows = &[
     (Recv(1), RemoteClosed),
 ];
 
-/// The pipe breaks, which is no end, and neither is what is told after it.
+/// The pipe breaks, which is no end. The results after it are no ends either.
 const BROKEN: Rows = &[
     (Open("Chat"), Named(1)),
     (Take, StreamJob(1, 1)),
@@ -51,7 +51,7 @@ const LOST: Rows = &[
     (RecvUp(1), Payload(b"b")),
 ];
 
-/// An item is given twice.
+/// An item is received twice.
 const TWICE: Rows = &[
     (Open("Chat"), Named(1)),
     (Take, StreamJob(1, 1)),
@@ -70,7 +70,7 @@ const SWAPPED: Rows = &[
     (Recv(1), Payload(b"a")),
 ];
 
-/// An item of another stream is given.
+/// An item of another stream is received.
 const OTHERS: Rows = &[
     (Open("Chat"), Named(1)),
     (Open("Chat"), Named(3)),
@@ -80,7 +80,7 @@ const OTHERS: Rows = &[
     (RecvUp(1), Payload(b"a")),
 ];
 
-/// An item is given that isn't sent yet.
+/// An item is received that isn't sent yet.
 const TOO_SOON: Rows = &[
     (Open("Chat"), Named(1)),
     (Take, StreamJob(1, 1)),
@@ -88,7 +88,7 @@ const TOO_SOON: Rows = &[
     (Send(1, b"a"), Ticket(1)),
 ];
 
-/// A last item is lost: the end is told before it.
+/// A last item is lost: the end is received before it.
 const EARLY: Rows = &[
     (Open("Chat"), Named(1)),
     (Take, StreamJob(1, 1)),
@@ -97,7 +97,7 @@ const EARLY: Rows = &[
     (RecvUp(1), Eof),
 ];
 
-/// The same of the payload by which a job ends.
+/// The same for the payload that a job ends with.
 const EARLY_DOWN: Rows = &[
     (Open("Chat"), Named(1)),
     (Take, StreamJob(1, 1)),
@@ -105,7 +105,7 @@ const EARLY_DOWN: Rows = &[
     (Recv(1), Eof),
 ];
 
-/// An end is told where nobody closed.
+/// An end is received though nothing was closed.
 const UNCLOSED: Rows = &[
     (Open("Chat"), Named(1)),
     (Take, StreamJob(1, 1)),
@@ -114,7 +114,7 @@ const UNCLOSED: Rows = &[
     (RecvUp(1), RemoteClosed),
 ];
 
-/// The same where the pipe to the client breaks.
+/// The same when the pipe to the client breaks.
 const UNCLOSED_DOWN: Rows = &[
     (Open("Chat"), Named(1)),
     (Take, StreamJob(1, 1)),
@@ -122,7 +122,7 @@ const UNCLOSED_DOWN: Rows = &[
     (Recv(1), Eof),
 ];
 
-/// Something is sent behind an end that was told.
+/// Something is sent after an end was received.
 const BEHIND: Rows = &[
     (Open("Chat"), Named(1)),
     (Take, StreamJob(1, 1)),
@@ -145,14 +145,14 @@ const FAULTS: &[(Order, Rows)] = &[
     (Order::PutBehindEnd, BEHIND),
 ];
 
-/// Traces whose items are in order, and what was given.
+/// Traces with items in order, and the number of items and ends that were received.
 #[rattlefmt::skip]
 const KEPT: &[(Order, Rows)] = &[
     (Order::Kept(Counts { items_up: 2, ends_up: 2, items_down: 2, ends_down: 1 }), GIVEN),
     (Order::Kept(Counts { items_down: 1, ..NONE }), BROKEN),
 ];
 
-/// This order is read of the trace.
+/// Checks that this order is read from the trace.
 pub fn has_order(rt: &impl Abort, trace: &[Entry], order: Order) {
     assert!(rt; read_lists(trace) == order);
 }

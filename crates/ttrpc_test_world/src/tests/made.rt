@@ -1,4 +1,4 @@
-//! Traces that are made by hand, of acts and what is told of their replies.
+//! Traces that are made by hand from acts and expected replies.
 
 use crate::tests::script::{Act, Rows, Said, event_of, request_of, response_of};
 use std::alloc::Global;
@@ -27,13 +27,13 @@ fn job_of(
     })))
 }
 
-/// An outcome that is `Ok` with this payload.
+/// Returns an outcome that is `Ok` with this payload.
 fn outcome_of(alloc: Global, payload: &[u8]) -> Result<Reply, Fail> {
     let response = response_of(alloc, payload)?;
     Ok(Reply::Outcome(Some(Ok(response))))
 }
 
-/// An outcome that is a status of this code and text.
+/// Returns an outcome that is a status with this code and text.
 fn told_status(alloc: Global, code: i32, text: &str) -> Result<Reply, Fail> {
     let message = Text::from_str(alloc, text)?;
     let details = Sequence::new(alloc);
@@ -49,13 +49,13 @@ fn item_of(alloc: Global, item: &[u8]) -> Result<Reply, Fail> {
     Ok(Reply::Item(Some(Ok(item))))
 }
 
-/// In place of an item, an error of a socket.
+/// Returns an error of a socket instead of an item.
 fn told_socket(alloc: Global, text: &str) -> Result<Reply, Fail> {
     let text = Text::from_str(alloc, text)?;
     Ok(Reply::Item(Some(Err(Error::Socket(text)))))
 }
 
-/// The outcome of a call, as it is told.
+/// Returns the outcome of a call.
 fn told_outcome(alloc: Global, said: Said) -> Result<Reply, Fail> {
     match said {
         Said::Payload(payload) => outcome_of(alloc, payload),
@@ -64,7 +64,7 @@ fn told_outcome(alloc: Global, said: Said) -> Result<Reply, Fail> {
     }
 }
 
-/// What a receiver is told.
+/// Returns the result of a receiver.
 fn told_item(alloc: Global, said: Said) -> Result<Reply, Fail> {
     match said {
         Said::Payload(item) => item_of(alloc, item),
@@ -75,7 +75,7 @@ fn told_item(alloc: Global, said: Said) -> Result<Reply, Fail> {
     }
 }
 
-/// The job that is handed out.
+/// Returns the job that is handed out.
 fn told_job(alloc: Global, said: Said) -> Result<Reply, Fail> {
     match said {
         Said::Job(id, stream_id, payload) => job_of(alloc, id, stream_id, false, "Echo", payload),
@@ -87,7 +87,7 @@ fn told_job(alloc: Global, said: Said) -> Result<Reply, Fail> {
     }
 }
 
-/// Any other reply.
+/// Returns any other reply.
 fn told_plainly(said: Said) -> Reply {
     match said {
         Said::Named(id) => Reply::Named(id),
@@ -97,7 +97,7 @@ fn told_plainly(said: Said) -> Reply {
     }
 }
 
-/// The reply to an act, as it is told.
+/// Returns the reply to an act.
 pub fn reply_of(alloc: Global, act: Act, said: Said) -> Result<Reply, Fail> {
     match act {
         Act::Outcome(_) => told_outcome(alloc, said),
@@ -107,7 +107,8 @@ pub fn reply_of(alloc: Global, act: Act, said: Said) -> Result<Reply, Fail> {
     }
 }
 
-/// The entry of an act with its reply. What isn't needed is let go by a call, so that the proof needn't read how.
+/// Returns the entry of an act with its reply. A value that isn't needed is dropped by a call, so that the proof
+/// needn't read how.
 fn entry_of(alloc: Global, act: Act, said: Said) -> Result<Entry, Fail> {
     let reply = reply_of(alloc, act, said)?;
     match event_of(alloc, act) {
@@ -119,13 +120,13 @@ fn entry_of(alloc: Global, act: Act, said: Said) -> Result<Entry, Fail> {
     }
 }
 
-/// One more entry. In a function of its own, since a value that isn't taken is let go here.
+/// Adds an entry. This is a function of its own, since a value that isn't taken is dropped here.
 fn push(trace: &mut Trace, entry: Entry) -> Result<(), Fail> {
     trace.push(entry)?;
     Ok(())
 }
 
-/// One more entry, if there was memory for it.
+/// Adds an entry, if there was memory for it.
 fn push_made(trace: &mut Trace, entry: Result<Entry, Fail>) -> Result<(), Fail> {
     push(trace, entry?)
 }
@@ -137,7 +138,7 @@ fn push_rows(alloc: Global, trace: &mut Trace, rows: Rows) -> Result<(), Fail> {
     Ok(())
 }
 
-/// The trace that rows tell.
+/// Returns the trace of these rows.
 pub fn trace_of(alloc: Global, rows: Rows) -> Result<Trace, Fail> {
     let mut trace = Vec::new(alloc);
     push_rows(alloc, &mut trace, rows)?;

@@ -1,29 +1,29 @@
-//! The headline, computed from a trace: ids are distinct, a call has at most one outcome, and an `Ok` is the answer of its
-//! one run. Slow, and written from its sentences alone.
+//! The headline, computed from a trace: ids are distinct, a call has at most one outcome, and an `Ok` is the answer of
+//! its one run. The program is slow, and written from this sentence alone.
 
 use ttrpc_client::CallId;
 use ttrpc_proto::{Error, Request, Response};
 use ttrpc_server::{Job, JobId};
 use ttrpc_world::{Entry, Event, Reply};
 
-/// What was read of a trace so far: what is wrong with it, or how many outcomes were `Ok`.
+/// The result of reading a trace so far: its fault, or the number of outcomes that were `Ok`.
 #[derive(Clone, Copy, PartialEq, Eq)]
 pub enum Finding {
-    /// Nothing is wrong, and so many outcomes were `Ok`.
+    /// Nothing is wrong, and this number of outcomes was `Ok`.
     Whole(usize),
-    /// A call was accepted, or a stream opened, under an id that was used.
+    /// A call was accepted, or a stream opened, with an id that was used.
     IdUsedTwice,
     /// A job was handed out for an id that no call or stream has, or for the second time.
     RunOutOfPlace,
     /// An answer, a response or an end of a job was accepted for the second time.
     AnsweredTwice,
-    /// An outcome was given of an id that no call has, or for the second time.
+    /// An outcome was given for an id that no call has, or for the second time.
     OutcomeOutOfPlace,
-    /// An outcome is `Ok`, and not the answer of the one run of its request.
+    /// An outcome is `Ok`, but not the answer of the one run of its request.
     OtherAnswer,
 }
 
-/// Whether a call was accepted under this id, or a stream opened.
+/// Returns whether the entry accepts a call or opens a stream with this id.
 fn is_named(entry: &Entry, id: CallId) -> bool {
     match (&entry.event, &entry.reply) {
         (Event::Call(_) | Event::Open(_, _, _), Reply::Named(named)) => *named == id,
@@ -31,7 +31,7 @@ fn is_named(entry: &Entry, id: CallId) -> bool {
     }
 }
 
-/// The calls that were accepted under this id, and the streams that were opened.
+/// Returns the number of calls that were accepted and of streams that were opened with this id.
 fn names_of(trace: &[Entry], id: CallId) -> usize {
     let mut count = 0usize;
     for entry in trace {
@@ -42,7 +42,7 @@ fn names_of(trace: &[Entry], id: CallId) -> usize {
     count
 }
 
-/// The first request of a call that was accepted under this id.
+/// Returns the first request of a call that was accepted with this id.
 fn call_of(trace: &[Entry], id: CallId) -> Option<&Request> {
     for entry in trace {
         if let (Event::Call(request), Reply::Named(named)) = (&entry.event, &entry.reply) {
@@ -54,7 +54,7 @@ fn call_of(trace: &[Entry], id: CallId) -> Option<&Request> {
     None
 }
 
-/// How many jobs were handed out for this id.
+/// Returns the number of jobs that were handed out for this id.
 fn runs_of(trace: &[Entry], id: CallId) -> usize {
     let mut count = 0usize;
     for entry in trace {
@@ -67,7 +67,7 @@ fn runs_of(trace: &[Entry], id: CallId) -> usize {
     count
 }
 
-/// The first job that was handed out for this id.
+/// Returns the first job that was handed out for this id.
 fn run_of(trace: &[Entry], id: CallId) -> Option<&Job> {
     for entry in trace {
         if let Reply::Handed(Some(job)) = &entry.reply {
@@ -79,7 +79,7 @@ fn run_of(trace: &[Entry], id: CallId) -> Option<&Job> {
     None
 }
 
-/// Whether a job has exactly this request; a stream's has it without its payload.
+/// Returns whether a job has exactly this request. A stream's job has it without its payload.
 pub fn has_request(job: &Job, request: &Request) -> bool {
     if !job.stream {
         return job.request == *request;
@@ -91,7 +91,7 @@ pub fn has_request(job: &Job, request: &Request) -> bool {
         && job.request.metadata == request.metadata
 }
 
-/// Whether an answer, a response or an end of this job was accepted here.
+/// Returns whether the entry accepts an answer, a response or an end of this job.
 pub fn is_answered(entry: &Entry, job: JobId) -> bool {
     match (&entry.event, &entry.reply) {
         (Event::Answer(id, _) | Event::Respond(id, _) | Event::EndStream(id, _), Reply::Done) => {
@@ -101,7 +101,7 @@ pub fn is_answered(entry: &Entry, job: JobId) -> bool {
     }
 }
 
-/// How many answers and responses to this job were accepted.
+/// Returns the number of answers, responses and ends of this job that were accepted.
 pub fn answers_of(trace: &[Entry], job: JobId) -> usize {
     let mut count = 0usize;
     for entry in trace {
@@ -112,7 +112,7 @@ pub fn answers_of(trace: &[Entry], job: JobId) -> usize {
     count
 }
 
-/// The first response that was accepted of this job, also as an answer or an end.
+/// Returns the first response that was accepted for this job, even as an answer or an end.
 fn answer_of(trace: &[Entry], job: JobId) -> Option<&Response> {
     for entry in trace {
         if is_answered(entry, job) {
@@ -126,7 +126,7 @@ fn answer_of(trace: &[Entry], job: JobId) -> Option<&Response> {
     None
 }
 
-/// How many outcomes were given of this id.
+/// Returns the number of outcomes that were given for this id.
 pub fn outcomes_of(trace: &[Entry], id: CallId) -> usize {
     let mut count = 0usize;
     for entry in trace {
@@ -139,7 +139,7 @@ pub fn outcomes_of(trace: &[Entry], id: CallId) -> usize {
     count
 }
 
-/// Whether the status of a response says that its call ended well.
+/// Returns whether the status of a response is OK, or missing.
 pub fn is_ok(response: &Response) -> bool {
     match &response.status {
         None => true,
@@ -147,7 +147,7 @@ pub fn is_ok(response: &Response) -> bool {
     }
 }
 
-/// Whether the trace up to an outcome makes it the answer of the one run, for exactly the request of its call.
+/// Returns whether the trace before an outcome makes it the answer of the one run, for exactly the request of its call.
 fn is_answer(before: &[Entry], id: CallId, response: &Response) -> bool {
     let (Some(request), Some(job)) = (call_of(before, id), run_of(before, id)) else {
         return false;
@@ -162,7 +162,7 @@ fn is_answer(before: &[Entry], id: CallId, response: &Response) -> bool {
         && is_ok(response)
 }
 
-/// What one entry behind others adds.
+/// Returns the effect of one entry after others.
 fn step(before: &[Entry], entry: &Entry) -> Finding {
     match (&entry.event, &entry.reply) {
         (Event::Call(_) | Event::Open(_, _, _), Reply::Named(id)) if names_of(before, *id) > 0 => {
@@ -178,7 +178,7 @@ fn step(before: &[Entry], entry: &Entry) -> Finding {
     }
 }
 
-/// What an outcome adds.
+/// Returns the effect of an outcome.
 fn outcome_step(before: &[Entry], id: CallId, outcome: &Result<Response, Error>) -> Finding {
     if call_of(before, id).is_none() || outcomes_of(before, id) > 0 {
         return Finding::OutcomeOutOfPlace;
@@ -190,7 +190,7 @@ fn outcome_step(before: &[Entry], id: CallId, outcome: &Result<Response, Error>)
     }
 }
 
-/// Whether each of the headline's sentences on calls holds of a trace. The first fault is found.
+/// Returns whether each of the headline's sentences on calls holds for a trace, or else the first fault.
 pub fn read_headline(trace: &[Entry]) -> Finding {
     let mut good = 0usize;
     for (at, entry) in trace.iter().enumerate() {

@@ -1,4 +1,4 @@
-//! Lists of events by chance, from a fixed seed: the headline holds of each trace, as the plain program reads it.
+//! Random lists of events, from fixed seeds. The headline holds for each trace, as the plain program reads it.
 use crate::tests::chance::Chance;
 use crate::tests::gentle::gentle_by;
 use crate::tests::lists::{Counts, NONE, Order, has_unknown_sender, read_lists};
@@ -22,15 +22,15 @@ use ttrpc_world::{Entry, Event, Side, StreamEnd, Trace};
 
 type Tested = Result<(), Fail>;
 
-/// The seed of the first of the four tests; each has its own.
+/// The seed of the first of the four tests. Each test has its own.
 const SEED: u64 = 20260101;
 
-/// How many lists each of the four tests runs.
+/// The number of lists that each of the four tests runs.
 const LISTS: usize = 1250;
 
 const EVENTS: usize = 64;
 
-/// A status that says that the call didn't end well.
+/// Returns a status that isn't OK.
 fn bad_status(alloc: Global) -> Status {
     Status {
         code: 5,
@@ -39,14 +39,14 @@ fn bad_status(alloc: Global) -> Status {
     }
 }
 
-/// An answer without a status, or with a bad one.
+/// Returns an answer without a status, or with a status that isn't OK.
 fn odd_answer(alloc: Global, job: u64, bad: bool, payload: &[u8]) -> Result<Event, AllocError> {
     let payload = Blob::from_slice(alloc, payload)?;
     let status = if bad { Some(bad_status(alloc)) } else { None };
     Ok(Event::Answer(job, Ok(Response { status, payload })))
 }
 
-/// What a handler gives: mostly a response that is OK.
+/// Returns a handler's answer: mostly a response that is OK.
 pub fn answer_by(alloc: Global, chance: &mut Chance, job: u64) -> Result<Event, AllocError> {
     let payload = [chance.below(256) as u8];
     match chance.below(40) {
@@ -57,7 +57,7 @@ pub fn answer_by(alloc: Global, chance: &mut Chance, job: u64) -> Result<Event, 
     }
 }
 
-/// A call of a method that there is, or by chance of a stream, or of one that isn't.
+/// Returns a call of a method that exists, or at random of a stream, or of a method that doesn't exist.
 fn call_by(alloc: Global, chance: &mut Chance) -> Result<Event, AllocError> {
     let payload = [chance.below(256) as u8];
     let timeout = if chance.below(4) == 0 { 20 } else { 0 };
@@ -68,7 +68,7 @@ fn call_by(alloc: Global, chance: &mut Chance) -> Result<Event, AllocError> {
     }
 }
 
-/// The name of a stream, mostly one that there is.
+/// Returns the name of a stream, mostly of one that exists.
 fn name_by(chance: &mut Chance) -> &'static str {
     match chance.below(8) {
         0 => "Nope",
@@ -96,12 +96,12 @@ fn item_by(chance: &mut Chance) -> &'static [u8] {
     }
 }
 
-/// An item that is sent on this end.
+/// Returns an item that is sent on this end.
 pub fn send_by(alloc: Global, chance: &mut Chance, end: StreamEnd) -> Result<Event, AllocError> {
     send(alloc, end, item_by(chance))
 }
 
-/// An event of a stream.
+/// Returns an event of a stream.
 fn of_stream(alloc: Global, chance: &mut Chance) -> Result<Event, AllocError> {
     match chance.below(24) {
         0..5 => open_by(alloc, chance),
@@ -120,7 +120,7 @@ fn of_stream(alloc: Global, chance: &mut Chance) -> Result<Event, AllocError> {
     }
 }
 
-/// What a handler ends a stream by.
+/// Returns an event with which a handler ends a stream.
 pub fn end_by(alloc: Global, chance: &mut Chance, job: u64) -> Result<Event, AllocError> {
     let payload = [chance.below(256) as u8];
     match chance.below(8) {
@@ -130,7 +130,7 @@ pub fn end_by(alloc: Global, chance: &mut Chance, job: u64) -> Result<Event, All
     }
 }
 
-/// An event that ends something: rare, so that most lists come far.
+/// Returns an event that ends something. Such events are rare, so that most lists come far.
 fn ending(chance: &mut Chance) -> Event {
     match chance.below(64) {
         0 | 1 => Event::Cut(chance.side(), chance.count()),
@@ -142,7 +142,7 @@ fn ending(chance: &mut Chance) -> Event {
     }
 }
 
-/// A response to a job, or by chance the end of one.
+/// Returns a response to a job, or at random the end of a job.
 fn responding(alloc: Global, chance: &mut Chance) -> Result<Event, AllocError> {
     let payload = [chance.below(256) as u8];
     if chance.below(4) == 0 {
@@ -174,7 +174,7 @@ fn event_by(alloc: Global, chance: &mut Chance) -> Result<Event, AllocError> {
 /// The ids of the first calls and streams.
 const IDS: [u32; 4] = [1, 3, 5, 7];
 
-/// An item is sent on each of the first streams, and one is closed.
+/// Adds an item that is sent on each of the first streams, and the close of one.
 fn settle_items(alloc: Global, events: &mut Events, chance: &mut Chance) {
     for id in IDS {
         put_made(events, send_by(alloc, chance, StreamEnd::Client(id)));
@@ -182,7 +182,7 @@ fn settle_items(alloc: Global, events: &mut Events, chance: &mut Chance) {
     put(events, Event::Close(chance.id()))
 }
 
-/// A job may be responded to, and ends.
+/// Adds a response to a job at random, or else its end.
 fn settle_response(alloc: Global, events: &mut Events, chance: &mut Chance, job: u64) {
     if chance.below(4) == 0 {
         put_made(events, respond(alloc, job, b"a"));
@@ -190,7 +190,7 @@ fn settle_response(alloc: Global, events: &mut Events, chance: &mut Chance, job:
     }
 }
 
-/// A job is taken, and answered or ended.
+/// Adds the take of a job, and its answer or its end.
 fn settle_job(alloc: Global, events: &mut Events, chance: &mut Chance, job: u64) {
     put(events, Event::Take);
     put_times(events, Act::RecvUp(job), 3);
@@ -207,7 +207,7 @@ fn settle_jobs(alloc: Global, events: &mut Events, chance: &mut Chance) {
     }
 }
 
-/// The outcome of each of the first calls is asked for, and three items of each stream.
+/// Adds the requests for the outcome of each of the first calls, and for three items of each stream.
 fn settle_outcomes(events: &mut Events) {
     for id in IDS {
         put(events, Event::Outcome(id));
@@ -215,7 +215,7 @@ fn settle_outcomes(events: &mut Events) {
     }
 }
 
-/// What is under way is brought to its end.
+/// Adds the events that bring all running work to its end.
 fn settle(alloc: Global, events: &mut Events, chance: &mut Chance) {
     settle_items(alloc, events, chance);
     put_times(events, Act::CarryUp(4096), 16);
@@ -225,7 +225,7 @@ fn settle(alloc: Global, events: &mut Events, chance: &mut Chance) {
     settle_outcomes(events)
 }
 
-/// Events by chance; in every second list what is under way is then brought to its end.
+/// Adds random events. In every second list all running work is then brought to its end.
 fn put_by_chance(alloc: Global, events: &mut Events, chance: &mut Chance) {
     for _ in 0..EVENTS {
         put_made(events, event_by(alloc, chance));
@@ -235,17 +235,17 @@ fn put_by_chance(alloc: Global, events: &mut Events, chance: &mut Chance) {
     }
 }
 
-/// Such events. One list in eight is a gentle one.
+/// Returns random events. One list in eight is a gentle one.
 fn events_by(alloc: Global, chance: &mut Chance, rules: Rules) -> Result<Vec<Event>, Fail> {
     if chance.below(8) == 0 {
         return gentle_by(alloc, chance, rules);
     }
     let mut events = Events::new(alloc);
     put_by_chance(alloc, &mut events, chance);
-    events.list()
+    Ok(events.list()?)
 }
 
-/// What the cores keep to.
+/// Returns a random client kind and random rules.
 fn ways_by(chance: &mut Chance) -> Ways {
     let kind = match chance.below(2) {
         0 => ClientKind::Sync,
@@ -258,7 +258,7 @@ fn ways_by(chance: &mut Chance) -> Ways {
     Ways { kind, rules }
 }
 
-/// A trace by chance, and what its server keeps to.
+/// Returns a random trace, with the terms of its server.
 fn trace_by(alloc: Global, chance: &mut Chance) -> Result<(Terms, Trace), Fail> {
     let ways = ways_by(chance);
     let events = events_by(alloc, chance, ways.rules)?;
@@ -270,7 +270,7 @@ fn trace_by(alloc: Global, chance: &mut Chance) -> Result<(Terms, Trace), Fail> 
     Ok((terms_of(over, ways.rules), trace))
 }
 
-/// How many traces are clean and quiet, and how many calls and receivers are whole in them.
+/// The number of traces that are clean and quiet, and the number of calls and receivers that are whole in them.
 #[derive(Clone, Copy)]
 struct Rests {
     traces: usize,
@@ -278,7 +278,7 @@ struct Rests {
     receivers: usize,
 }
 
-/// The same with one more trace: if it is clean and quiet, it is whole.
+/// Counts one more trace. If it is clean and quiet, it must be whole.
 fn rested(alloc: Global, rests: Rests, terms: Terms, trace: &[Entry]) -> Result<Rests, Fail> {
     match read_rest(alloc, terms, trace)? {
         Rest::Unsaid => Ok(rests),
@@ -291,7 +291,7 @@ fn rested(alloc: Global, rests: Rests, terms: Terms, trace: &[Entry]) -> Result<
     }
 }
 
-/// How many items and ends the receivers of a trace were given, which are in order.
+/// Returns the number of items and ends that the receivers of a trace got. They must be in order.
 fn read_in_order(trace: &[Entry]) -> Result<Counts, Fail> {
     if has_unknown_sender(trace) {
         return Ok(NONE);
@@ -302,7 +302,7 @@ fn read_in_order(trace: &[Entry]) -> Result<Counts, Fail> {
     }
 }
 
-/// The sums of two.
+/// Returns the sums of both.
 fn both(one: Counts, other: Counts) -> Counts {
     Counts {
         items_up: one.items_up.saturating_add(other.items_up),
@@ -312,7 +312,7 @@ fn both(one: Counts, other: Counts) -> Counts {
     }
 }
 
-/// What was counted over lists: the calls that end well, the items and ends that were given, and the clean quiet traces.
+/// The sums over lists: the calls that end well, the items and ends that were received, and the clean quiet traces.
 #[derive(Clone, Copy)]
 struct Sums {
     good: usize,
@@ -331,7 +331,7 @@ const NOTHING: Sums = Sums {
     },
 };
 
-/// How many calls of a trace end well, of which the headline holds.
+/// Returns the number of calls of a trace that end well. The headline must hold.
 fn good_calls(trace: &[Entry]) -> Result<usize, Fail> {
     match read_headline(trace) {
         Finding::Whole(good) => Ok(good),
@@ -339,7 +339,7 @@ fn good_calls(trace: &[Entry]) -> Result<usize, Fail> {
     }
 }
 
-/// The sums with one more trace.
+/// Returns the sums with one more trace.
 fn with_trace(alloc: Global, sums: Sums, terms: Terms, trace: &[Entry]) -> Result<Sums, Fail> {
     let good = sums.good.saturating_add(good_calls(trace)?);
     let counts = both(sums.counts, read_in_order(trace)?);
@@ -351,15 +351,15 @@ fn with_trace(alloc: Global, sums: Sums, terms: Terms, trace: &[Entry]) -> Resul
     })
 }
 
-/// The same with one that is made by chance. Nothing in it wanted memory, since there was enough.
+/// Returns the sums with one more random trace. No memory was refused in it, since there was enough.
 fn with_chance(alloc: Global, sums: Sums, chance: &mut Chance) -> Result<Sums, Fail> {
     let (terms, trace) = trace_by(alloc, chance)?;
     had_memory(trace.as_slice())?;
     with_trace(alloc, sums, terms, trace.as_slice())
 }
 
-/// Hundreds of calls end well, and each way hundreds of items and ends are given. One trace in twenty is a clean quiet one,
-/// at least.
+/// Returns whether the sums are large enough: hundreds of calls end well, hundreds of items and ends are received each
+/// way, and more than one trace in twenty is clean and quiet.
 fn are_enough(sums: Sums) -> bool {
     let (rests, counts) = (sums.rests, sums.counts);
     rests.traces > LISTS / 20
@@ -372,7 +372,8 @@ fn are_enough(sums: Sums) -> bool {
         && counts.ends_down > 450
 }
 
-/// Over 1250 lists from this seed the headline holds, and enough is counted. Each clean quiet run is whole.
+/// Checks that the headline holds over 1250 lists from this seed, and that the sums are large enough. Each clean quiet
+/// run is whole.
 fn holds_by_chance(rt: &impl Abort, alloc: Global, seed: u64) -> Tested {
     let mut chance = Chance { state: seed };
     let mut sums = NOTHING;
@@ -403,7 +404,7 @@ fn the_headline_holds_by_a_fourth_chance(rt: HostRuntime) -> Tested {
     holds_by_chance(&rt, rt.alloc(), SEED + 3)
 }
 
-/// Each fault, and a trace that has it, of call, stream or job 1.
+/// Each fault, and a trace with it, of the call, stream or job 1.
 const FAULTS: &[(Finding, Rows)] = &[
     (Finding::IdUsedTwice, &[CALLED, CALLED]),
     (Finding::IdUsedTwice, &[CALLED, OPENED]),
@@ -420,33 +421,33 @@ const FAULTS: &[(Finding, Rows)] = &[
 
 const CALLED: (Act, Said) = (Act::Call(b"a", 0), Said::Named(1));
 
-/// A stream was opened under the same id.
+/// A stream was opened with the same id.
 const OPENED: (Act, Said) = (Act::Open("Echo"), Said::Named(1));
 
 /// A job of call 1 was handed out.
 const RUN: (Act, Said) = (Act::Take, Said::Job(1, 1, b"a"));
 
-/// A stream's, with the payload of its request still in it.
+/// A stream's job, with the payload of its request still in it.
 const STREAM_RUN: (Act, Said) = (Act::Take, Said::FullStreamJob(1, 1, b"a"));
 
 const BROKEN: (Act, Said) = (Act::Break(1), Said::Done);
 
-/// The job is answered by a stream's end.
+/// The job is answered with a stream's end.
 const ENDED: (Act, Said) = (Act::EndWith(1, b"a"), Said::Done);
 
 const GIVEN: (Act, Said) = (Act::Outcome(1), Said::Payload(b"a"));
 
-/// The call failed by a status.
+/// The call failed with a status.
 const FAILED: (Act, Said) = (Act::Outcome(1), Said::Status(2, "eof"));
 
-/// The plain program sees this fault in such a trace.
+/// Checks that the plain program finds this fault in such a trace.
 fn is_found(rt: &impl Abort, alloc: Global, finding: Finding, rows: Rows) -> Tested {
     let trace = trace_of(alloc, rows)?;
     has_finding(rt, trace.as_slice(), finding);
     Ok(())
 }
 
-/// The plain program sees each fault.
+/// The plain program finds each fault.
 #[test]
 fn faults_are_found(rt: HostRuntime) -> Tested {
     for (finding, rows) in FAULTS {

@@ -19,7 +19,7 @@ pub const SYNC: [Ways; 2] = [
     Ways { kind: ClientKind::Async, rules: Rules::Sync },
 ];
 
-/// The same to one with async rules.
+/// Both kinds of client, to a server with async rules.
 #[rattlefmt::skip]
 pub const ASYNC: [Ways; 2] = [
     Ways { kind: ClientKind::Sync, rules: Rules::Async },
@@ -59,7 +59,7 @@ pub const ONE_CALL: Rows = &[
     (DeliverDown(1), Count(0)),
 ];
 
-/// The same with a stamp of one byte on each frame.
+/// The same, with a stamp of one byte on each frame.
 pub const ONE_STAMPED_CALL: Rows = &[
     (Call(b"\x2a", 0), Named(1)),
     (CarryUp(64), Count(31)),
@@ -76,7 +76,8 @@ pub const ONE_STAMPED_CALL: Rows = &[
     (DeliverDown(1), Count(0)),
 ];
 
-/// A response in place of an answer: a second one is no step, nor is an answer, before and after the job ends.
+/// A response takes the place of an answer. A second response is no step, and neither is an answer, before and after
+/// the job ends.
 pub const ONE_RESPONSE: Rows = &[
     (Call(b"\x2a", 0), Named(1)),
     (CarryUp(30), Count(30)),
@@ -96,7 +97,7 @@ pub const ONE_RESPONSE: Rows = &[
     (DeliverDown(1), Count(0)),
 ];
 
-/// With a stamp, and the job goes on until its call has its outcome.
+/// The same with stamps. The job goes on until its call has its outcome.
 const ONE_STAMPED_RESPONSE: Rows = &[
     (Call(b"\x2a", 0), Named(1)),
     (CarryUp(64), Count(31)),
@@ -142,7 +143,7 @@ const CUT_INSIDE: Rows = &[
     (DeliverUp(1), Socket("socket disconnected inside a frame")),
 ];
 
-/// It is cut before anything is in flight, and what is carried then is lost.
+/// The pipe is cut before any bytes are in flight, and bytes that are carried later are lost.
 const CUT_BEFORE: Rows = &[
     (CutUp(0), Done),
     (DeliverUp(1), Socket("socket disconnected")),
@@ -153,7 +154,7 @@ const CUT_BEFORE: Rows = &[
     (Outcome(1), Waits),
 ];
 
-/// A call expires while its job runs; its answer finds nothing, and the next call gets its own.
+/// A call expires while its job runs. Its answer finds no call, and the next call gets its own answer.
 const LATE_ANSWER: Rows = &[
     (Call(b"\x2a", 10), Named(1)),
     (CarryUp(4096), Count(32)),
@@ -199,7 +200,7 @@ const LATE_STAMPED_ANSWER: Rows = &[
     (Outcome(3), Payload(b"\x2b")),
 ];
 
-/// A request of 34 bytes expires when 12 of them have left, and the connection fails.
+/// A request of 34 bytes expires after 12 of them have left, and the connection fails.
 #[rattlefmt::skip]
 const EXPIRES_INSIDE: Rows = &[
     (Call(b"\x01\x02\x03", 10), Named(1)),
@@ -211,7 +212,7 @@ const EXPIRES_INSIDE: Rows = &[
     (DeliverUp(64), Count(12)),
 ];
 
-/// One that is sealed goes out whole, and the connection lives.
+/// A request that is sealed goes out whole, and the connection lives.
 const SEALED_EXPIRES_INSIDE: Rows = &[
     (Call(b"\x01\x02\x03", 10), Named(1)),
     (CarryUp(12), Count(12)),
@@ -235,7 +236,7 @@ const DROPPED_BEFORE: Rows = &[
     (Outcome(1), Waits),
 ];
 
-/// What can't happen is no step, and a handler's error fails the server.
+/// An event that can't happen is no step, and a handler's error fails the server.
 #[rattlefmt::skip]
 const NO_STEPS: Rows = &[
     (Answer(1, b"\x2a"), NoStep),
@@ -264,7 +265,7 @@ const FAILED: Rows = &[
     (DeliverDown(1), Socket("failed")),
 ];
 
-/// A call's deadline comes while its job runs: both sides give it up, and the next call gets its own answer.
+/// A call's deadline comes while its job runs. Both sides give the call up, and the next call gets its own answer.
 const JOB_EXPIRES: Rows = &[
     (Call(b"\x2a", 10), Named(1)),
     (CarryUp(4096), Count(32)),
@@ -308,7 +309,7 @@ const STAMPED_JOB_EXPIRES: Rows = &[
     (Outcome(3), Payload(b"\x2b")),
 ];
 
-/// A job that expires before it was given is never given. The client isn't told of a moment in between.
+/// A job that expires before it is handed out never is. The client gets no tick of its own in between.
 const UNTAKEN_EXPIRES: Rows = &[
     (Call(b"\x2a", 10), Named(1)),
     (CarryUp(4096), Count(32)),
@@ -320,7 +321,7 @@ const UNTAKEN_EXPIRES: Rows = &[
     (Outcome(1), Others("Request deadline elapsed")),
 ];
 
-/// Events of async rules are no step under sync rules, nor is an item that is asked for of a failed side.
+/// Events of async rules are no step under sync rules, and neither is the receiving of an item at a failed side.
 const SYNC_NO_STEPS: Rows = &[
     (RecvUp(1), NoStep),
     (SendDown(1, b"a"), NoStep),
@@ -343,7 +344,7 @@ const SYNC_NO_STEPS: Rows = &[
     (End(1), Socket("failed")),
 ];
 
-/// Events of sync rules are no step under async rules, and the end of a stream is none for a job that wasn't taken.
+/// Events of sync rules are no step under async rules, and neither is the end of a stream's job that wasn't taken.
 const ASYNC_NO_STEPS: Rows = &[
     (Respond(1, b"\x2a"), NoStep),
     (Finish(1), NoStep),
@@ -370,7 +371,7 @@ const ASYNC_NO_STEPS: Rows = &[
     (Answer(1, b"\x2a"), Socket("failed")),
 ];
 
-/// A server that drains takes none of the bytes in its pipe, and answers what it has taken.
+/// A server that drains takes none of the bytes in its pipe, and answers the requests that it has taken.
 const DRAINED: Rows = &[
     (Call(b"\x2a", 0), Named(1)),
     (Call(b"\x2b", 0), Named(3)),
@@ -392,28 +393,28 @@ const DRAINED: Rows = &[
 
 // ---- tables of scripts
 
-/// Scripts, each with the halves that it runs over, and the ways in which each is run.
+/// Scripts, each with the halves that it runs over, and the ways that each is run in.
 pub type Table = (&'static [Ways], &'static [Script]);
 
 /// A script and its halves. Its rows follow one another.
 pub type Script = (Over, &'static [Rows]);
 
-/// This is found in the trace.
+/// Checks that this is found in the trace.
 pub fn has_finding(rt: &impl Abort, trace: &[Entry], finding: Finding) {
     assert!(rt; read_headline(trace) == finding);
 }
 
-/// Each reply is the one of the script.
+/// Checks that each reply is the one of the script.
 pub fn has_replies(rt: &impl Abort, trace: &[Entry], script: &[Rows]) {
     assert_eq!(rt; first_fault(trace, script), None);
 }
 
-/// The headline holds of the trace.
+/// Returns whether the headline holds for the trace.
 fn is_whole(trace: &[Entry]) -> bool {
     matches!(read_headline(trace), Finding::Whole(_))
 }
 
-/// The headline holds of the trace, and each reply is the one of the script.
+/// Checks that the headline holds for the trace, and that each reply is the one of the script.
 fn is_told(rt: &impl Abort, trace: &[Entry], script: &[Rows]) -> Tested {
     assert!(rt; is_whole(trace));
     had_memory(trace)?;
@@ -421,7 +422,7 @@ fn is_told(rt: &impl Abort, trace: &[Entry], script: &[Rows]) -> Tested {
     Ok(())
 }
 
-fn is_told_so(rt: &impl Abort, alloc: Global, ways: Ways, script: &Script) -> Tested {
+pub fn is_told_so(rt: &impl Abort, alloc: Global, ways: Ways, script: &Script) -> Tested {
     let (over, rows) = *script;
     let trace = run_script(alloc, over, ways, rows)?;
     is_told(rt, trace.as_slice(), rows)
@@ -442,7 +443,7 @@ fn is_told_in_all(rt: &impl Abort, alloc: Global, table: &Table) -> Tested {
     Ok(())
 }
 
-/// What is told holds of each script of these tables, in each way.
+/// Checks the replies of each script of these tables, in each way.
 pub fn are_told(rt: &impl Abort, alloc: Global, tables: &[Table]) -> Tested {
     for table in tables {
         is_told_in_all(rt, alloc, table)?;
@@ -536,8 +537,7 @@ fn a_server_drains(rt: HostRuntime) -> Tested {
     are_told(&rt, rt.alloc(), &[(&ALL, DRAINS)])
 }
 
-/// A server whose queue has no free byte refuses an answer, and takes no request until as many bytes as the longest frame has
-/// are free.
+/// A server with a full queue refuses an answer. It takes no request until the longest frame has room.
 const FULL_QUEUE: Rows = &[
     (Call(b"\x2a", 0), Named(1)),
     (Call(b"\x2b", 0), Named(3)),
@@ -572,7 +572,7 @@ fn a_full_queue_refuses_until_a_frame_has_left(rt: HostRuntime) -> Tested {
     are_told(&rt, rt.alloc(), &[(&SYNC, FULL_QUEUES)])
 }
 
-/// A call whose bytes are carried and delivered one by one, once more than there are.
+/// A call with bytes that are carried and delivered one by one, with one try more than there are bytes.
 const BYTE_BY_BYTE: Rows = &[
     (Call(b"\x2a", 0), Named(1)),
     (BytesUp(30), Count(1)),
@@ -584,7 +584,7 @@ const BYTE_BY_BYTE: Rows = &[
     (Outcome(1), Payload(b"\x2a")),
 ];
 
-/// The same with stamps, where there are as many.
+/// The same with stamps, with exactly as many tries as there are bytes.
 const STAMPED_BYTE_BY_BYTE: Rows = &[
     (Call(b"\x2a", 0), Named(1)),
     (BytesUp(31), Count(1)),
@@ -599,14 +599,14 @@ const BYTES: &[Script] = &[
     (Over::Stamps, &[STAMPED_BYTE_BY_BYTE]),
 ];
 
-/// One call was answered.
+/// Checks that one call was answered.
 fn ends_well(rt: &impl Abort, trace: &[Entry]) -> Tested {
     had_memory(trace)?;
     has_finding(rt, trace, Finding::Whole(1));
     Ok(())
 }
 
-/// One call is answered by a script, each of whose replies is as it is told.
+/// Checks that a script answers one call, and that each reply is as expected.
 fn answers_one(rt: &impl Abort, alloc: Global, ways: Ways, script: &Script) -> Tested {
     let (over, rows) = *script;
     let trace = run_script(alloc, over, ways, rows)?;
@@ -625,4 +625,12 @@ fn each_answers_one(rt: &impl Abort, alloc: Global, ways: Ways) -> Tested {
 fn a_call_is_answered_byte_by_byte(rt: HostRuntime) -> Tested {
     each_answers_one(&rt, rt.alloc(), SYNC[0])?;
     each_answers_one(&rt, rt.alloc(), ASYNC[1])
+}
+
+const WHOLE: &[Script] = &[(Over::Plain, &[ONE_CALL])];
+
+/// `tools/refuse-memory --named` refuses each allocation of this test.
+#[test]
+fn refused_memory_is_named_by_a_call(rt: HostRuntime) -> Tested {
+    is_told_so(&rt, rt.alloc(), SYNC[0], &WHOLE[0])
 }

@@ -1,4 +1,4 @@
-//! Events in a short form, and replies as they are told.
+//! Events in a short form, and expected replies.
 use std::alloc::{AllocError, Global};
 use std::mem;
 use std::test::Fail;
@@ -13,7 +13,7 @@ use ttrpc_wire::codec::message::WireMessage;
 use ttrpc_wire::{Blob, Sequence, Text};
 use ttrpc_world::{Entry, Event, Reply, Side, StreamEnd, Trace, World};
 
-/// One event of a script. A call or a stream is one of the service `demo.Echo`.
+/// One event of a script. Its calls and streams are those of the service `demo.Echo`.
 #[derive(Clone, Copy)]
 pub enum Act {
     /// A call of the method `Echo` with this payload and timeout.
@@ -22,11 +22,11 @@ pub enum Act {
     CallOf(&'static str, &'static [u8]),
     /// A stream of this name is opened, both ways.
     Open(&'static str),
-    /// A stream of this name is opened by this payload, to receive items.
+    /// A stream of this name is opened with this payload, to receive items.
     Ask(&'static str, &'static [u8]),
     Outcome(u32),
     DropCall(u32),
-    /// The client asks for an item of a stream.
+    /// The client receives from a stream.
     Recv(u32),
     /// The client sends an item on a stream.
     Send(u32, &'static [u8]),
@@ -36,23 +36,23 @@ pub enum Act {
     Take,
     /// An answer with this payload.
     Answer(u64, &'static [u8]),
-    /// An answer with so many bytes 7.
+    /// An answer with this number of bytes 7.
     AnswerSevens(u64, usize),
     /// A handler's error.
     Break(u64),
     /// A response with this payload.
     Respond(u64, &'static [u8]),
     Finish(u64),
-    /// The server asks for an item of a job's stream.
+    /// The server receives from a job's stream.
     RecvUp(u64),
     /// The server sends an item on a job's stream.
     SendDown(u64, &'static [u8]),
     DropReceiverUp(u64),
     /// A stream's job ends, without a response.
     End(u64),
-    /// A stream's job ends by a response with this payload.
+    /// A stream's job ends with a response with this payload.
     EndWith(u64, &'static [u8]),
-    /// A stream's job ends by a handler's error.
+    /// A stream's job ends with a handler's error.
     EndBroken(u64),
     Drain,
     Tick(u64),
@@ -62,7 +62,7 @@ pub enum Act {
     DeliverDown(usize),
     CutUp(usize),
     CutDown(usize),
-    /// So many bytes are carried up and delivered, one by one: two events each.
+    /// This number of bytes is carried up and delivered, one by one: two events each.
     BytesUp(usize),
     /// The same downwards.
     BytesDown(usize),
@@ -70,30 +70,30 @@ pub enum Act {
     FailServer,
 }
 
-/// What is told of a reply.
+/// An expected reply.
 #[derive(Clone, Copy)]
 pub enum Said {
     Named(u32),
     Ticket(u64),
     /// An outcome that is `Ok`, or an item, with this payload.
     Payload(&'static [u8]),
-    /// An outcome that is `Ok`, with so many bytes 7.
+    /// An outcome that is `Ok`, with this number of bytes 7.
     Sevens(usize),
-    /// An outcome, an item or a refusal that is an error of this text.
+    /// An outcome, an item or a refusal that is `Others` with this text.
     Others(&'static str),
     Socket(&'static str),
-    /// The same of a status with this code and text.
+    /// The same with a status with this code and text.
     Status(i32, &'static str),
-    /// The same of an end of items, and of what comes after it.
+    /// The same with an end of items, and with the errors after it.
     Eof,
     RemoteClosed,
     LocalClosed,
     NoRoom,
     /// No outcome yet, or no item.
     Waits,
-    /// This job of one response, of this stream, with this payload.
+    /// This call's job, with this stream id and this payload.
     Job(u64, u32, &'static [u8]),
-    /// This stream's job, of this stream. It has no payload.
+    /// This stream's job, with this stream id. It has no payload.
     StreamJob(u64, u32),
     /// The same with a payload that is still in it.
     FullStreamJob(u64, u32, &'static [u8]),
@@ -105,10 +105,10 @@ pub enum Said {
     NoStep,
 }
 
-/// Acts, each with what is told of its reply.
+/// Acts, each with its expected reply.
 pub type Rows = &'static [(Act, Said)];
 
-/// A request of this name.
+/// Returns a request of this name.
 pub fn request_of(
     alloc: Global,
     method: &str,
@@ -127,7 +127,7 @@ pub fn request_of(
     })
 }
 
-/// A response with a status that is present and empty, and this payload.
+/// Returns a response with a status that is present and empty, and this payload.
 pub fn response_of(alloc: Global, payload: &[u8]) -> Result<Response, AllocError> {
     let payload = Blob::from_slice(alloc, payload)?;
     Ok(Response {
@@ -136,7 +136,7 @@ pub fn response_of(alloc: Global, payload: &[u8]) -> Result<Response, AllocError
     })
 }
 
-// ---- events, each made by a function of its own, which owns nothing where it may fail
+// ---- events, each made by its own function, which owns nothing when it may fail
 
 pub fn call(
     alloc: Global,
@@ -148,7 +148,7 @@ pub fn call(
     Ok(Event::Call(request))
 }
 
-/// A stream, and whether the client sends on it, and the server.
+/// Returns a stream. The flags say whether the client sends on it, and whether the server does.
 pub fn open(
     alloc: Global,
     method: &str,
@@ -185,7 +185,7 @@ pub fn end_with(alloc: Global, id: u64, payload: &[u8]) -> Result<Event, AllocEr
     Ok(Event::EndStream(id, Ok(Some(response))))
 }
 
-/// The event of an act that is one event.
+/// Returns the event of an act that is one event.
 pub fn event_of(alloc: Global, act: Act) -> Result<Event, AllocError> {
     match act {
         Act::Call(payload, timeout) => call(alloc, "Echo", payload, timeout),
@@ -202,7 +202,7 @@ pub fn event_of(alloc: Global, act: Act) -> Result<Event, AllocError> {
     }
 }
 
-/// The same of an event that takes no memory.
+/// Returns the same for an event that takes no memory.
 pub fn plain_event(act: Act) -> Event {
     match act {
         Act::Outcome(id) => Event::Outcome(id),
@@ -222,7 +222,7 @@ pub fn plain_event(act: Act) -> Event {
     }
 }
 
-/// The same of events of a pipe or a side.
+/// Returns the same for events of a pipe or a side.
 fn side_event(act: Act) -> Event {
     match act {
         Act::Tick(now) => Event::Tick(now),
@@ -240,7 +240,7 @@ fn side_event(act: Act) -> Event {
 
 // ---- lists of events
 
-/// Events that are put together. Who puts them needs no way out where memory is refused: the list keeps that it was.
+/// Events that are put together. Adding an event can't fail: the list remembers if memory was refused.
 #[derive(Drop)]
 pub struct Events {
     list: Vec<Event>,
@@ -255,16 +255,17 @@ impl Events {
         }
     }
 
-    /// The events, if memory was never refused.
-    pub fn list(self) -> Result<Vec<Event>, Fail> {
+    /// Returns the events, if memory was never refused.
+    pub fn list(self) -> Result<Vec<Event>, Error> {
         if self.refused {
-            return Err(Error::NoMemory.into());
+            return Err(Error::NoMemory);
         }
         Ok(self.list)
     }
 }
 
-/// Whether there was room for one more event. In a function of its own, since a value that isn't taken is let go here.
+/// Adds an event, and returns whether there was room. This is a function of its own, since a value that isn't taken is
+/// dropped here.
 fn is_put(events: &mut Vec<Event>, event: Event) -> bool {
     match events.push(event) {
         Ok(()) => true,
@@ -275,14 +276,14 @@ fn is_put(events: &mut Vec<Event>, event: Event) -> bool {
     }
 }
 
-/// One more event.
+/// Adds an event.
 pub fn put(events: &mut Events, event: Event) {
     if !is_put(&mut events.list, event) {
         events.refused = true;
     }
 }
 
-/// One more event, if there was memory for it.
+/// Adds an event, if there was memory for it.
 pub fn put_made(events: &mut Events, event: Result<Event, AllocError>) {
     match event {
         Ok(event) => put(events, event),
@@ -290,14 +291,14 @@ pub fn put_made(events: &mut Events, event: Result<Event, AllocError>) {
     }
 }
 
-/// The event of this act, which takes no memory, so many times.
+/// Adds the event of this act, which takes no memory, `count` times.
 pub fn put_times(events: &mut Events, act: Act, count: usize) {
     for _ in 0..count {
         put(events, plain_event(act));
     }
 }
 
-/// So many bytes are carried by the one act and delivered by the other, one by one.
+/// Adds `count` bytes that are carried by the one act and delivered by the other, one by one.
 fn put_bytes(events: &mut Events, carry: Act, deliver: Act, count: usize) {
     for _ in 0..count {
         put(events, plain_event(carry));
@@ -305,7 +306,7 @@ fn put_bytes(events: &mut Events, carry: Act, deliver: Act, count: usize) {
     }
 }
 
-/// The events of an act.
+/// Adds the events of an act.
 fn put_act(alloc: Global, events: &mut Events, act: Act) {
     match act {
         Act::BytesUp(count) => put_bytes(events, Act::CarryUp(1), Act::DeliverUp(1), count),
@@ -320,8 +321,8 @@ fn put_rows(alloc: Global, events: &mut Events, rows: Rows) {
     }
 }
 
-/// The events of a script.
-pub fn events_of(alloc: Global, script: &[Rows]) -> Result<Vec<Event>, Fail> {
+/// Returns the events of a script.
+pub fn events_of(alloc: Global, script: &[Rows]) -> Result<Vec<Event>, Error> {
     let mut events = Events::new(alloc);
     for rows in script {
         put_rows(alloc, &mut events, rows);
@@ -331,7 +332,7 @@ pub fn events_of(alloc: Global, script: &[Rows]) -> Result<Vec<Event>, Fail> {
 
 // ---- replies
 
-/// Whether the error is a status of this code and text.
+/// Returns whether the error is a status with this code and text.
 fn is_status(error: &Error, code: i32, told: &str) -> bool {
     match error {
         Error::RpcStatus(status) => status.code == code && status.message.as_str() == told,
@@ -339,7 +340,7 @@ fn is_status(error: &Error, code: i32, told: &str) -> bool {
     }
 }
 
-/// Whether the error is one of this kind and text.
+/// Returns whether the error is one of this kind and with this text.
 fn is_error(error: &Error, said: Said) -> bool {
     match said {
         Said::Others(told) => matches!(error, Error::Others(text) if text.as_str() == told),
@@ -353,7 +354,7 @@ fn is_error(error: &Error, said: Said) -> bool {
     }
 }
 
-/// Whether the outcome is `Ok` with this payload, or the item is this.
+/// Returns whether the outcome is `Ok` with this payload, or the item is this.
 fn has_payload(reply: &Reply, payload: &[u8]) -> bool {
     match reply {
         Reply::Outcome(Some(Ok(response))) => response.payload.as_slice() == payload,
@@ -362,7 +363,7 @@ fn has_payload(reply: &Reply, payload: &[u8]) -> bool {
     }
 }
 
-/// Returns whether the outcome is `Ok` with so many bytes 7.
+/// Returns whether the outcome is `Ok` with `count` bytes 7.
 fn has_sevens(reply: &Reply, count: usize) -> bool {
     match reply {
         Reply::Outcome(Some(Ok(response))) => {
@@ -373,7 +374,7 @@ fn has_sevens(reply: &Reply, count: usize) -> bool {
     }
 }
 
-/// Whether the outcome, the item or the refusal is this error.
+/// Returns whether the outcome, the item or the refusal is this error.
 fn has_error(reply: &Reply, said: Said) -> bool {
     match reply {
         Reply::Outcome(Some(Err(error))) => is_error(error, said),
@@ -416,7 +417,7 @@ pub fn is_said(reply: &Reply, said: Said) -> bool {
     }
 }
 
-/// Whether the reply tells that memory was refused.
+/// Returns whether the reply is that memory was refused.
 fn is_want_of_memory(reply: &Reply) -> bool {
     match reply {
         Reply::NoMemory => true,
@@ -427,7 +428,7 @@ fn is_want_of_memory(reply: &Reply) -> bool {
     }
 }
 
-/// Ends a test with that error, where a reply tells that memory was refused: what follows is then another story.
+/// Returns an error if a reply is that memory was refused: the rest of the test would be another story.
 pub fn had_memory(trace: &[Entry]) -> Result<(), Fail> {
     for entry in trace {
         if is_want_of_memory(&entry.reply) {
@@ -437,7 +438,7 @@ pub fn had_memory(trace: &[Entry]) -> Result<(), Fail> {
     Ok(())
 }
 
-/// Whether the reply at this place is what is said.
+/// Returns whether the reply at this place is the expected one.
 fn is_said_at(trace: &[Entry], at: usize, said: Said) -> bool {
     match trace.get(at) {
         Some(entry) => is_said(&entry.reply, said),
@@ -445,7 +446,7 @@ fn is_said_at(trace: &[Entry], at: usize, said: Said) -> bool {
     }
 }
 
-/// How many events an act is.
+/// Returns the number of events of an act.
 fn events_in(act: Act) -> usize {
     match act {
         Act::BytesUp(count) | Act::BytesDown(count) => count.saturating_mul(2),
@@ -453,7 +454,8 @@ fn events_in(act: Act) -> usize {
     }
 }
 
-/// The place behind the replies to an act that begin here, or as an error the place of the first one that isn't what is said.
+/// Returns the place after the replies to an act that begin here. If one of them isn't the expected one, returns its
+/// place as an error.
 fn place_behind(trace: &[Entry], begin: usize, act: Act, said: Said) -> Result<usize, usize> {
     let mut at = begin;
     for _ in 0..events_in(act) {
@@ -465,7 +467,7 @@ fn place_behind(trace: &[Entry], begin: usize, act: Act, said: Said) -> Result<u
     Ok(at)
 }
 
-/// The same of rows.
+/// Returns the same for rows.
 fn place_behind_rows(trace: &[Entry], begin: usize, rows: Rows) -> Result<usize, usize> {
     let mut at = begin;
     for (act, said) in rows {
@@ -474,7 +476,7 @@ fn place_behind_rows(trace: &[Entry], begin: usize, rows: Rows) -> Result<usize,
     Ok(at)
 }
 
-/// The place of the first reply that isn't the one that the script says; none, if all are.
+/// Returns the place of the first reply that isn't the one in the script, or `None` if all are.
 pub fn first_fault(trace: &[Entry], script: &[Rows]) -> Option<usize> {
     let mut at = 0usize;
     for rows in script {
@@ -488,7 +490,7 @@ pub fn first_fault(trace: &[Entry], script: &[Rows]) -> Option<usize> {
 
 // ---- worlds
 
-/// What the two cores of a world keep to.
+/// The kind of a world's client, and the rules of its server.
 #[derive(Clone, Copy)]
 pub struct Ways {
     pub kind: ClientKind,
@@ -504,28 +506,28 @@ pub enum Over {
 }
 
 /// Runs events over plain halves.
-pub fn over_plain(alloc: Global, ways: Ways, events: Vec<Event>) -> Result<Trace, Fail> {
+pub fn over_plain(alloc: Global, ways: Ways, events: Vec<Event>) -> Result<Trace, Error> {
     plain_is_paired();
     let registry = registry(alloc)?;
-    let client = ClientCore::new(alloc, ways.kind, plain_context(alloc));
-    let server = ServerCore::new(alloc, ways.rules, registry, plain_context(alloc));
-    Ok(World::new(alloc, client, server).run(alloc, events)?)
+    let client = ClientCore::new(alloc, ways.kind, plain_context(alloc))?;
+    let server = ServerCore::new(alloc, ways.rules, registry, plain_context(alloc))?;
+    World::new(alloc, client, server).run(alloc, events)
 }
 
 /// Runs events over halves that stamp.
-pub fn over_stamps(alloc: Global, ways: Ways, events: Vec<Event>) -> Result<Trace, Fail> {
+pub fn over_stamps(alloc: Global, ways: Ways, events: Vec<Event>) -> Result<Trace, Error> {
     let registry = registry(alloc)?;
     let (up_out, up_in) = stamps();
     let (down_out, down_in) = stamps();
     let up = ConnectionContext::of_halves(alloc, up_out, down_in);
     let down = ConnectionContext::of_halves(alloc, down_out, up_in);
-    let client = ClientCore::new(alloc, ways.kind, up);
-    let server = ServerCore::new(alloc, ways.rules, registry, down);
-    Ok(World::new(alloc, client, server).run(alloc, events)?)
+    let client = ClientCore::new(alloc, ways.kind, up)?;
+    let server = ServerCore::new(alloc, ways.rules, registry, down)?;
+    World::new(alloc, client, server).run(alloc, events)
 }
 
 /// Runs events over these halves.
-pub fn run_over(alloc: Global, over: Over, ways: Ways, events: Vec<Event>) -> Result<Trace, Fail> {
+pub fn run_over(alloc: Global, over: Over, ways: Ways, events: Vec<Event>) -> Result<Trace, Error> {
     match over {
         Over::Plain => over_plain(alloc, ways, events),
         Over::Stamps => over_stamps(alloc, ways, events),
@@ -533,6 +535,6 @@ pub fn run_over(alloc: Global, over: Over, ways: Ways, events: Vec<Event>) -> Re
 }
 
 /// Runs a script over these halves.
-pub fn run_script(alloc: Global, over: Over, ways: Ways, script: &[Rows]) -> Result<Trace, Fail> {
+pub fn run_script(alloc: Global, over: Over, ways: Ways, script: &[Rows]) -> Result<Trace, Error> {
     run_over(alloc, over, ways, events_of(alloc, script)?)
 }

@@ -1,14 +1,14 @@
 //! Scripts of streams with their replies, over plain halves and over halves that stamp.
-use crate::tests::rows_tests::{ASYNC, SYNC, Script, Table, Tested, are_told};
+use crate::tests::rows_tests::{ASYNC, SYNC, Script, Table, Tested, are_told, is_told_so};
 use crate::tests::script::Act::*;
 use crate::tests::script::Said::*;
 use crate::tests::script::{Over, Rows};
 
-/// What a receiver is told behind an error.
+/// The error of a receiver after an error.
 const PAST: &str = "Receive packet from Receiver error";
 
-/// What opens a stream both ways is a frame of 27 bytes. The client sends two items and an empty one between them, and
-/// closes; the server receives them, and their end.
+/// The frame that opens a stream both ways has 27 bytes. The client sends two items and an empty one between them, and
+/// closes. The server receives them, and their end.
 const ITEMS_UP: Rows = &[
     (Open("Chat"), Named(1)),
     (Send(1, b"a"), Ticket(1)),
@@ -36,7 +36,7 @@ const ITEMS_UP: Rows = &[
     (SendDown(1, b"a"), LocalClosed),
 ];
 
-/// A server sends two items of 11 bytes each, of which one arrives.
+/// A server sends two items of 11 bytes each, and one arrives.
 const CUT_BETWEEN: Rows = &[
     (Open("Chat"), Named(1)),
     (CarryUp(64), Count(27)),
@@ -53,7 +53,7 @@ const CUT_BETWEEN: Rows = &[
     (Recv(1), Others(PAST)),
 ];
 
-/// One arrives, and a part of the other.
+/// One item arrives, and a part of the other.
 const CUT_INSIDE: Rows = &[
     (Open("Chat"), Named(1)),
     (CarryUp(64), Count(27)),
@@ -70,7 +70,7 @@ const CUT_INSIDE: Rows = &[
     (Recv(1), Others(PAST)),
 ];
 
-/// A call that meets a stream gets its payload as the first item, and no end. Data that come back are no outcome.
+/// A call that meets a stream: its payload is the first item, and no end follows. Data that come back are no outcome.
 #[rattlefmt::skip]
 const CALL_GETS_DATA: Rows = &[
     (CallOf("Chat", b"\x2a"), Named(1)),
@@ -89,7 +89,7 @@ const CALL_GETS_DATA: Rows = &[
     (Outcome(1), Waits),
 ];
 
-/// A response alone is its outcome.
+/// If a response alone comes back, that response is the outcome.
 const CALL_GETS_RESPONSE: Rows = &[
     (CallOf("Chat", b"\x2a"), Named(1)),
     (CarryUp(64), Count(30)),
@@ -102,7 +102,7 @@ const CALL_GETS_RESPONSE: Rows = &[
     (Outcome(1), Payload(b"\x2b")),
 ];
 
-/// A close is none, and neither is a handler's error.
+/// A close is no good outcome, and neither is a handler's error.
 #[rattlefmt::skip]
 const CALL_GETS_CLOSE: Rows = &[
     (CallOf("Chat", b"\x2a"), Named(1)),
@@ -141,7 +141,7 @@ const STREAM_MEETS_METHOD: Rows = &[
     (Outcome(1), Waits),
 ];
 
-/// A stream under sync rules: it meets a method, its items are passed over, and the answer is its one item.
+/// A stream under sync rules: it meets a method, its items are skipped, and the answer is its one item.
 const STREAM_UNDER_SYNC: Rows = &[
     (Open("Echo"), Named(1)),
     (Send(1, b"a"), Ticket(1)),
@@ -161,7 +161,7 @@ const STREAM_UNDER_SYNC: Rows = &[
     (Recv(3), Status(3, "/demo.Echo/Chat does not exist")),
 ];
 
-/// A server sends on the stream of a job that waits, and asks it for items.
+/// A server sends on the stream of a job that waits, and receives from it.
 const JOB_THAT_WAITS: Rows = &[
     (Ask("Chat", b"\x2a"), Named(1)),
     (Send(1, b"a"), Others("stream is not sendable")),
@@ -184,8 +184,7 @@ const JOB_THAT_WAITS: Rows = &[
     (Recv(1), Eof),
 ];
 
-/// Halves of a stream are dropped: what comes for a receiver that is dropped is refused at the server, and lost at the
-/// client.
+/// Halves of a stream are dropped. Items for a dropped receiver are refused at the server, and lost at the client.
 const DROPPED: Rows = &[
     (Open("Chat"), Named(1)),
     (Open("Chat"), Named(3)),
@@ -210,7 +209,8 @@ const DROPPED: Rows = &[
     (Close(3), Ticket(2)),
 ];
 
-/// A stream that is opened by an empty item has it, and nothing behind it. With stamps the frame has a byte more.
+/// A stream that is opened with an empty item has that item, and nothing after it. With stamps the frame has one byte
+/// more.
 const EMPTY_ITEM: Rows = &[
     (Ask("Chat", b""), Named(1)),
     (CarryUp(64), Count(27)),
@@ -227,7 +227,7 @@ const STAMPED_EMPTY_ITEM: Rows = &[
     (RecvUp(1), RemoteClosed),
 ];
 
-/// The same with stamps, where no bytes are counted.
+/// The same with stamps: an item and an empty one go up, and an item and a response come down.
 const STAMPED_ITEMS: Rows = &[
     (Open("Chat"), Named(1)),
     (Send(1, b"a"), Ticket(1)),
@@ -262,13 +262,13 @@ pub const QUEUED: Rows = &[
     (Close(1), Ticket(4)),
 ];
 
-/// They are moved byte by byte, and there are no more.
+/// The queued frames are moved byte by byte, and there are no more bytes.
 pub const MOVED: Rows = &[(BytesUp(69), Count(1)), (CarryUp(1), Count(0))];
 
 /// The same with stamps.
 pub const STAMPED_MOVED: Rows = &[(BytesUp(74), Count(1)), (CarryUp(1), Count(0))];
 
-/// They are received.
+/// The items are received.
 pub const RECEIVED: Rows = &[
     (RecvUp(1), Payload(b"a")),
     (RecvUp(1), Payload(b"")),
@@ -289,7 +289,7 @@ const ALTERNATE_UP: Rows = &[
     (Close(3), Ticket(6)),
 ];
 
-/// Each receiver is given its own, and then the frames alternate that go back.
+/// Each receiver gets its own items, and then the frames back alternate.
 const ALTERNATE_DOWN: Rows = &[
     (RecvUp(2), Payload(b"b")),
     (RecvUp(1), Payload(b"a")),
@@ -306,7 +306,7 @@ const ALTERNATE_DOWN: Rows = &[
     (End(2), Done),
 ];
 
-/// And come to the client.
+/// The client receives them.
 const ALTERNATE_BACK: Rows = &[
     (Recv(1), Payload(b"f")),
     (Recv(1), Payload(b"h")),
@@ -316,7 +316,7 @@ const ALTERNATE_BACK: Rows = &[
     (Recv(3), Eof),
 ];
 
-/// The bytes of each go up, one by one, and down.
+/// The bytes of both streams go up, one by one, and down.
 #[rattlefmt::skip]
 const ALTERNATING: &[Script] = &[
     (Over::Plain, &[ALTERNATE_UP, &[(BytesUp(118), Count(1)), (CarryUp(1), Count(0))], ALTERNATE_DOWN, &[(BytesDown(58), Count(1)), (CarryDown(1), Count(0))], ALTERNATE_BACK]),
@@ -395,4 +395,10 @@ const DROPS: &[Script] = &[(Over::Plain, &[DROPPED])];
 #[test]
 fn halves_are_dropped(rt: HostRuntime) -> Tested {
     are_told(&rt, rt.alloc(), &[(&ASYNC, DROPS)])
+}
+
+/// The same for a stream.
+#[test]
+fn refused_memory_is_named_by_a_stream(rt: HostRuntime) -> Tested {
+    is_told_so(&rt, rt.alloc(), ASYNC[0], &BYTE_BY_BYTE[0])
 }

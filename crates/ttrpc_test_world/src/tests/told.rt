@@ -1,4 +1,4 @@
-//! What a caller is told of what a handler gave. Slow, and written from these sentences alone.
+//! The outcome that a caller gets for a handler's answer. The program is slow, and written from these sentences alone.
 
 use crate::tests::plainly::is_ok;
 use crate::tests::script::Over;
@@ -12,14 +12,14 @@ use ttrpc_world::Event;
 /// The most bytes that a message may have.
 const LONGEST: usize = 4194304;
 
-/// What a server keeps to: its rules, and the most bytes that it may seal.
+/// The terms of a server: its rules, and the number of bytes that it may seal at most.
 #[derive(Clone, Copy)]
 pub struct Terms {
     pub rules: Rules,
     pub limit: usize,
 }
 
-/// What a server over these halves keeps to. Each stamp is a byte.
+/// Returns the terms of a server over these halves. Each stamp is a byte.
 pub fn terms_of(over: Over, rules: Rules) -> Terms {
     let limit = match over {
         Over::Plain => LONGEST,
@@ -28,7 +28,7 @@ pub fn terms_of(over: Over, rules: Rules) -> Terms {
     Terms { rules, limit }
 }
 
-/// What is told of a response of so many bytes in its place; nothing where they aren't too many.
+/// Returns the text that replaces a response of `size` bytes, or `None` if it isn't too long.
 fn too_long(alloc: Global, terms: Terms, size: usize) -> Result<Option<String>, Fail> {
     let limit = terms.limit;
     if size > LONGEST && matches!(terms.rules, Rules::Async) {
@@ -44,7 +44,7 @@ fn too_long(alloc: Global, terms: Terms, size: usize) -> Result<Option<String>, 
     Ok(None)
 }
 
-/// Whether an outcome is a status of this code and text, and of nothing else.
+/// Returns whether an outcome is a status with this code and text, and without details.
 fn is_status(outcome: &Result<Response, Error>, code: i32, text: &str) -> bool {
     match outcome {
         Err(Error::RpcStatus(status)) => {
@@ -54,7 +54,7 @@ fn is_status(outcome: &Result<Response, Error>, code: i32, text: &str) -> bool {
     }
 }
 
-/// Whether this is what is told of a response: that it is too long, or itself, or its status where that isn't OK.
+/// Returns whether this is the outcome for a response: that it is too long, or itself, or its status if that isn't OK.
 fn tells_response(
     alloc: Global,
     terms: Terms,
@@ -71,7 +71,8 @@ fn tells_response(
     })
 }
 
-/// Whether this outcome is what is told of an answer: of a handler's error, that it is unknown, with the error's text.
+/// Returns whether this is the outcome for an answer. A handler's error becomes the status UNKNOWN with the error's
+/// text.
 pub fn tells(
     alloc: Global,
     terms: Terms,

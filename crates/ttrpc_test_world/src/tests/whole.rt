@@ -1,5 +1,5 @@
-//! Whether a run is clean, whether it is quiet, and whether it is whole then, read from a trace. Slow, and written from these
-//! sentences alone.
+//! Reads from a trace whether a run is clean, whether it is quiet, and whether it is whole then. The program is slow,
+//! and written from these sentences alone.
 
 use crate::tests::lists::{Way, all_given, stream_of, was_ended};
 use crate::tests::plainly::{answers_of, has_request, is_answered, outcomes_of};
@@ -11,16 +11,16 @@ use ttrpc_proto::{Error, Request, Response};
 use ttrpc_server::{JobId, Rules};
 use ttrpc_world::{Entry, Event, Reply, Side, StreamEnd};
 
-/// What was read of a trace.
+/// The result of reading a trace.
 #[derive(Clone, Copy, PartialEq, Eq)]
 pub enum Rest {
-    /// It isn't clean, or not quiet: nothing is said of it.
+    /// The trace isn't clean, or not quiet: nothing is said about it.
     Unsaid,
-    /// It is clean, quiet and whole: of so many calls and receivers all came.
+    /// The trace is clean, quiet and whole: this number of calls and this number of receivers got everything.
     Whole(usize, usize),
-    /// A call that was asked for isn't whole.
+    /// A call is not whole, though its outcome was requested.
     BrokenCall,
-    /// A receiver that was asked out wasn't given all.
+    /// A receiver did not get everything, though it was read to its end.
     BrokenStream,
 }
 
@@ -38,7 +38,7 @@ fn is_clean_event(event: &Event) -> bool {
     )
 }
 
-/// Nothing is refused, and a receiver is told of an item, of an end, or of nothing yet.
+/// Returns whether the reply refuses nothing, and is no other error of a receiver than an end.
 fn is_clean_reply(reply: &Reply) -> bool {
     match reply {
         Reply::Refused(_) | Reply::NoMemory => false,
@@ -47,7 +47,7 @@ fn is_clean_reply(reply: &Reply) -> bool {
     }
 }
 
-/// Under sync rules no answer is an error.
+/// Returns whether the entry is clean under these rules: under sync rules no answer is an error.
 fn is_clean_answer(rules: Rules, entry: &Entry) -> bool {
     match (&entry.event, &entry.reply) {
         (Event::Answer(_, Err(_)) | Event::EndStream(_, Err(_)), Reply::Done) => {
@@ -57,8 +57,8 @@ fn is_clean_answer(rules: Rules, entry: &Entry) -> bool {
     }
 }
 
-/// Whether a moment reaches the deadline of what began at an earlier one. A timeout of 0 sets none, and a negative one is
-/// the `u64` of the same bits.
+/// Returns whether the moment `now` reaches a deadline that began at an earlier moment. A timeout of 0 sets none, and a
+/// negative timeout is the `u64` with the same bits.
 fn is_due(began: u64, timeout_nano: i64, now: u64) -> bool {
     timeout_nano != 0
         && u128::from(began) + u128::from(timeout_nano.cast_unsigned()) <= u128::from(now)
@@ -71,7 +71,7 @@ fn moment_after(moment: u64, entry: &Entry) -> u64 {
     }
 }
 
-/// Whether a job of this stream was answered.
+/// Returns whether a job of this stream was answered.
 fn has_answer(trace: &[Entry], id: CallId) -> bool {
     for entry in trace {
         if let Reply::Handed(Some(job)) = &entry.reply {
@@ -83,7 +83,8 @@ fn has_answer(trace: &[Entry], id: CallId) -> bool {
     false
 }
 
-/// Whether this moment reaches the deadline of what began here, and has no outcome or answer before it.
+/// Returns whether the moment `now` reaches the deadline of the call or stream that began here, if that has no outcome
+/// or answer before.
 fn is_reached(front: &[Entry], entry: &Entry, began: u64, now: u64) -> bool {
     let (request, open) = match (&entry.event, &entry.reply) {
         (Event::Call(request), Reply::Named(id)) => (request, outcomes_of(front, *id) == 0),
@@ -93,7 +94,7 @@ fn is_reached(front: &[Entry], entry: &Entry, began: u64, now: u64) -> bool {
     open && is_due(began, request.timeout_nano, now)
 }
 
-/// Whether a moment reaches a deadline of what is in front of it.
+/// Returns whether a moment reaches a deadline of one of the entries before it.
 fn reaches_one(front: &[Entry], now: u64) -> bool {
     let mut moment = 0u64;
     for entry in front {
@@ -105,7 +106,7 @@ fn reaches_one(front: &[Entry], now: u64) -> bool {
     false
 }
 
-/// Whether nothing was refused, lost or late.
+/// Returns whether nothing was refused, lost or late.
 pub fn is_clean(rules: Rules, trace: &[Entry]) -> bool {
     for (at, entry) in trace.iter().enumerate() {
         if !is_clean_event(&entry.event)
@@ -125,7 +126,7 @@ pub fn is_clean(rules: Rules, trace: &[Entry]) -> bool {
 
 // ---- quiet
 
-/// The side from which nothing was carried here, though something might have been.
+/// Returns the side from which the entry carried no bytes, though it offered room.
 fn carried_nothing(entry: &Entry) -> Option<Side> {
     match (&entry.event, &entry.reply) {
         (Event::Carry(side, n), Reply::Count(0)) if *n > 0 => Some(*side),
@@ -133,7 +134,7 @@ fn carried_nothing(entry: &Entry) -> Option<Side> {
     }
 }
 
-/// The same of a delivery.
+/// Returns the same for a delivery.
 fn delivered_nothing(entry: &Entry) -> Option<Side> {
     match (&entry.event, &entry.reply) {
         (Event::Deliver(side, n), Reply::Count(0)) if *n > 0 => Some(*side),
@@ -141,7 +142,7 @@ fn delivered_nothing(entry: &Entry) -> Option<Side> {
     }
 }
 
-/// Whether these are two sides.
+/// Returns whether these are both sides.
 fn are_both(one: Option<Side>, other: Option<Side>) -> bool {
     matches!(
         (one, other),
@@ -149,7 +150,7 @@ fn are_both(one: Option<Side>, other: Option<Side>) -> bool {
     )
 }
 
-/// Whether the last four events are a carry from each side and a delivery to each, which moved nothing.
+/// Returns whether the last four events are a carry from each side and a delivery to each, which moved nothing.
 fn is_drained(trace: &[Entry]) -> bool {
     let n = trace.len();
     if n < 4 {
@@ -164,7 +165,7 @@ fn is_drained(trace: &[Entry]) -> bool {
     )
 }
 
-/// Whether a side took bytes here.
+/// Returns whether a side took bytes here.
 fn takes_bytes(entry: &Entry, side: Side) -> bool {
     match (&entry.event, &entry.reply) {
         (Event::Deliver(to, _), Reply::Count(count)) => {
@@ -181,7 +182,7 @@ fn other(side: Side) -> Side {
     }
 }
 
-/// Where what is behind the last bytes begins that a side took; 0 where it took none.
+/// Returns the place after the last bytes that a side took, or 0 if it took none.
 fn behind_bytes(trace: &[Entry], side: Side) -> usize {
     let mut begin = 0usize;
     for (at, entry) in trace.iter().enumerate() {
@@ -192,7 +193,7 @@ fn behind_bytes(trace: &[Entry], side: Side) -> usize {
     begin
 }
 
-/// Whether no job waited behind the last bytes that the server took, if it took any.
+/// Returns whether no job waited after the last bytes that the server took, if it took any.
 fn is_taken(trace: &[Entry]) -> bool {
     let begin = behind_bytes(trace, Side::Server);
     if begin == 0 {
@@ -206,7 +207,7 @@ fn is_taken(trace: &[Entry]) -> bool {
     false
 }
 
-/// Whether each job that was handed out was answered.
+/// Returns whether each job that was handed out was answered.
 fn are_answered(trace: &[Entry]) -> bool {
     for entry in trace {
         if let Reply::Handed(Some(job)) = &entry.reply {
@@ -218,14 +219,14 @@ fn are_answered(trace: &[Entry]) -> bool {
     true
 }
 
-/// Whether nothing is left to be moved, to be run or to be answered.
+/// Returns whether nothing is left to be moved, run or answered.
 pub fn is_quiet(trace: &[Entry]) -> bool {
     is_drained(trace) && are_answered(trace) && is_taken(trace)
 }
 
 // ---- whole
 
-/// Whether the outcome of a call was given, or asked for behind the last bytes that the client took.
+/// Returns whether the outcome of a call was given, or requested after the last bytes that the client took.
 fn is_asked_for(trace: &[Entry], id: CallId) -> bool {
     if outcomes_of(trace, id) > 0 {
         return true;
@@ -238,20 +239,20 @@ fn is_asked_for(trace: &[Entry], id: CallId) -> bool {
     false
 }
 
-/// What was read of a call so far.
+/// The result of reading a call so far.
 #[derive(Clone, Copy)]
 enum Read {
     Nothing,
     Called,
     Ran(JobId),
-    /// The answer stands at this place.
+    /// The answer is at this place.
     Answered(JobId, usize),
-    /// And the outcome at that one.
+    /// The answer is at the first place, and the outcome at the second.
     Given(JobId, usize, usize),
     Broken,
 }
 
-/// Whether a job of this call was answered here.
+/// Returns whether a job of this call was answered here.
 fn answers(entry: &Entry, read: Read) -> bool {
     match read {
         Read::Ran(job) | Read::Answered(job, _) | Read::Given(job, _, _) => is_answered(entry, job),
@@ -259,7 +260,7 @@ fn answers(entry: &Entry, read: Read) -> bool {
     }
 }
 
-/// What one more entry makes of it.
+/// Returns the result with one more entry.
 fn read_on(trace: &[Entry], at: usize, id: CallId, request: &Request, read: Read) -> Read {
     let Some(entry) = trace.get(at) else {
         return read;
@@ -287,7 +288,7 @@ fn read_on(trace: &[Entry], at: usize, id: CallId, request: &Request, read: Read
     }
 }
 
-/// Whether a call was made, run once, answered once, and given what is told of that answer, in this order and once each.
+/// Returns whether a call was made, run, answered, and got the outcome for that answer, in this order and once each.
 fn is_whole_call(
     alloc: Global,
     terms: Terms,
@@ -311,12 +312,12 @@ fn is_whole_call(
     }
 }
 
-/// Whether a request names the method that there is.
+/// Returns whether a request names the method that exists.
 fn names_method(request: &Request) -> bool {
     request.service.as_str() == "demo.Echo" && request.method.as_str() == "Echo"
 }
 
-/// Whether a receiver had nothing yet here.
+/// Returns whether a receiver had nothing yet here.
 fn finds_nothing(trace: &[Entry], entry: &Entry, way: Way) -> bool {
     match (&entry.event, &entry.reply, way) {
         (Event::Recv(StreamEnd::Server(job)), Reply::Item(None), Way::Up(id)) => {
@@ -327,7 +328,7 @@ fn finds_nothing(trace: &[Entry], entry: &Entry, way: Way) -> bool {
     }
 }
 
-/// Whether a receiver was told of an end, or had nothing yet behind the last bytes that its side took.
+/// Returns whether a receiver got an end, or had nothing yet after the last bytes that its side took.
 fn is_asked_out(trace: &[Entry], way: Way) -> bool {
     if was_ended(trace, way) {
         return true;
@@ -344,7 +345,7 @@ fn is_asked_out(trace: &[Entry], way: Way) -> bool {
     false
 }
 
-/// Of one way of an id: how many receivers are whole, 0 where it wasn't asked out.
+/// Returns the number of whole receivers of one way of an id. The number is 0 if the receiver wasn't read to its end.
 fn way_is_whole(trace: &[Entry], way: Way) -> Option<usize> {
     if !is_asked_out(trace, way) {
         return Some(0);
@@ -352,7 +353,7 @@ fn way_is_whole(trace: &[Entry], way: Way) -> Option<usize> {
     if all_given(trace, way) { Some(1) } else { None }
 }
 
-/// Of both ways of an id.
+/// Returns the number of whole receivers of both ways of an id.
 fn ways_are_whole(trace: &[Entry], id: CallId) -> Option<usize> {
     match (
         way_is_whole(trace, Way::Up(id)),
@@ -363,7 +364,8 @@ fn ways_are_whole(trace: &[Entry], id: CallId) -> Option<usize> {
     }
 }
 
-/// Of an id: how many calls are whole, 0 where it is no call of a method, or wasn't asked for.
+/// Returns the number of whole calls of an id. The number is 0 if it is no call of a method, or if its outcome wasn't
+/// requested.
 fn call_is_whole(
     alloc: Global,
     terms: Terms,
@@ -384,7 +386,8 @@ fn call_is_whole(
     })
 }
 
-/// What is read of a trace: if it is clean and quiet, whether each call and each receiver is whole that was asked.
+/// Reads a trace. If it is clean and quiet, returns whether each call and each receiver with a requested result is
+/// whole.
 pub fn read_rest(alloc: Global, terms: Terms, trace: &[Entry]) -> Result<Rest, Fail> {
     if !is_clean(terms.rules, trace) || !is_quiet(trace) {
         return Ok(Rest::Unsaid);

@@ -1,4 +1,5 @@
-//! Runs that are clean and quiet, and whole; runs of which nothing is said; and traces from which something is kept back.
+//! Runs that are clean, quiet and whole, runs about which nothing is said, and traces from which something is kept
+//! back.
 
 use crate::tests::lists::{Counts, Order};
 use crate::tests::lists_tests::has_order;
@@ -18,10 +19,10 @@ use std::process::Abort;
 use std::test::Fail;
 use ttrpc_world::{Entry, Reply, Trace};
 
-/// Bytes enough for any frame here but the longest.
+/// Enough bytes for any frame here but the longest.
 const ALL: usize = 4096;
 
-/// Nothing more moves.
+/// No more bytes are there to be moved.
 const AT_REST: Rows = &[
     (CarryUp(1), Count(0)),
     (CarryDown(1), Count(0)),
@@ -29,7 +30,7 @@ const AT_REST: Rows = &[
     (DeliverDown(1), Count(0)),
 ];
 
-/// The same, asked for in another order.
+/// The same, in another order.
 const AT_REST_TOO: Rows = &[
     (CarryDown(9), Count(0)),
     (CarryUp(8), Count(0)),
@@ -50,7 +51,7 @@ const ANSWERED: Rows = &[
     (Outcome(1), Payload(b"\x2b")),
 ];
 
-/// The same without the last try for a job.
+/// The same, without the last take.
 const UNTAKEN: Rows = &[
     (Call(b"\x2a", 0), Named(1)),
     (CarryUp(ALL), Moved),
@@ -62,7 +63,7 @@ const UNTAKEN: Rows = &[
     (Outcome(1), Payload(b"\x2b")),
 ];
 
-/// And without its answer.
+/// The same, without an answer, too.
 const UNANSWERED: Rows = &[
     (Call(b"\x2a", 0), Named(1)),
     (CarryUp(ALL), Moved),
@@ -71,7 +72,7 @@ const UNANSWERED: Rows = &[
     (Take, NoJob),
 ];
 
-/// It is answered by a response, under sync rules.
+/// A call is answered with a response, under sync rules.
 const RESPONDED: Rows = &[
     (Call(b"\x2a", 0), Named(1)),
     (CarryUp(ALL), Moved),
@@ -87,7 +88,7 @@ const RESPONDED: Rows = &[
     (Take, NoJob),
 ];
 
-/// The outcome is asked for before it is there, and not again: nothing is said of the call.
+/// The outcome is requested before it is there, and not again: nothing is said about the call.
 const ASKED_EARLY: Rows = &[
     (Call(b"\x2a", 0), Named(1)),
     (CarryUp(ALL), Moved),
@@ -100,7 +101,7 @@ const ASKED_EARLY: Rows = &[
     (DeliverDown(ALL), Moved),
 ];
 
-/// A handler gives an error.
+/// A handler returns an error.
 const BROKEN_HANDLER: Rows = &[
     (Call(b"\x2a", 0), Named(1)),
     (CarryUp(ALL), Moved),
@@ -113,7 +114,7 @@ const BROKEN_HANDLER: Rows = &[
     (Outcome(1), Status(2, "eof")),
 ];
 
-/// A timeout is kept, and passes once the outcome was given. One of -1 isn't reached.
+/// A timeout is kept, and passes after the outcome was given. A timeout of -1 isn't reached.
 const KEPT_TIMEOUT: Rows = &[
     (Call(b"\x2a", 10), Named(1)),
     (Call(b"\x2c", -1), Named(3)),
@@ -136,7 +137,7 @@ const KEPT_TIMEOUT: Rows = &[
     (Outcome(3), Payload(b"\x2d")),
 ];
 
-/// One passes before the outcome is asked for: nothing is said of the run, though the outcome had come.
+/// A timeout passes before the outcome is requested: nothing is said about the run, though the outcome had come.
 const LATE: Rows = &[
     (Call(b"\x2a", 10), Named(1)),
     (CarryUp(ALL), Moved),
@@ -150,7 +151,7 @@ const LATE: Rows = &[
     (Outcome(1), Payload(b"\x2b")),
 ];
 
-/// A stream that meets a method is given its response.
+/// A stream that meets a method gets its response.
 const OPEN_MEETS_METHOD: Rows = &[
     (Ask("Echo", b"a"), Named(1)),
     (CarryUp(ALL), Moved),
@@ -196,7 +197,7 @@ const ITEMS: Rows = &[
     (Take, NoJob),
 ];
 
-/// The client doesn't close, and the server asks until it has nothing yet. No item comes down.
+/// The client doesn't close, and the server receives until there is nothing yet. No item comes down.
 const UNCLOSED: Rows = &[
     (Open("Chat"), Named(1)),
     (Send(1, b"a"), Ticket(1)),
@@ -213,7 +214,7 @@ const UNCLOSED: Rows = &[
     (Recv(1), Eof),
 ];
 
-/// The server asks before the item is there, and not again: nothing is said of its receiver.
+/// The server receives before the item is there, and not again: nothing is said about its receiver.
 const UNASKED: Rows = &[
     (Open("Chat"), Named(1)),
     (Send(1, b"a"), Ticket(1)),
@@ -230,7 +231,7 @@ const UNASKED: Rows = &[
     (Recv(1), Eof),
 ];
 
-/// A stream's job ends, and its client is told.
+/// A stream's job ends, and its client receives the end.
 const ENDED: Rows = &[
     (Take, StreamJob(1, 1)),
     (Take, NoJob),
@@ -240,22 +241,22 @@ const ENDED: Rows = &[
     (Recv(1), Eof),
 ];
 
-// ---- what is read of runs
+// ---- the results of runs
 
-/// A script, and what is read of its trace once nothing more moves.
+/// A script, and the result of its trace after no more bytes are moved.
 type Run = (Rows, Rest);
 
-/// A script that says itself that nothing more moves, the halves that it runs over, and what is read of its trace.
+/// A script that itself ends with bytes at rest, the halves that it runs over, and the result of its trace.
 type Whole = (Over, Rows, Rest);
 
-/// This is read of a trace.
+/// Checks that this is read from a trace.
 fn is_rest(rt: &impl Abort, alloc: Global, terms: Terms, trace: &[Entry], rest: Rest) -> Tested {
     let read = read_rest(alloc, terms, trace)?;
     assert!(rt; read == rest);
     Ok(())
 }
 
-/// Each reply is the one of the script, and this is read of the trace.
+/// Checks that each reply is the one of the script, and that this is read from the trace.
 fn reads(
     rt: &impl Abort,
     alloc: Global,
@@ -269,7 +270,7 @@ fn reads(
     is_rest(rt, alloc, terms, trace, rest)
 }
 
-/// The same of a run over these halves.
+/// Checks the same for a run over these halves.
 fn rests_over(
     rt: &impl Abort,
     alloc: Global,
@@ -283,7 +284,7 @@ fn rests_over(
     reads(rt, alloc, terms, trace.as_slice(), script, rest)
 }
 
-/// The same of two scripts, one behind the other, over both halves, once nothing more moves.
+/// Checks the same for two scripts, one after the other, over both halves, after no more bytes are moved.
 fn rests_behind(
     rt: &impl Abort,
     alloc: Global,
@@ -298,7 +299,7 @@ fn rests_behind(
     rests_over(rt, alloc, Over::Stamps, ways, &script, rest)
 }
 
-/// The same of each of these runs.
+/// Checks the same for each of these runs.
 fn rests_in(rt: &impl Abort, alloc: Global, ways: Ways, runs: &[Run]) -> Tested {
     for (rows, rest) in runs {
         rests_behind(rt, alloc, ways, rows, &[], *rest)?;
@@ -306,7 +307,7 @@ fn rests_in(rt: &impl Abort, alloc: Global, ways: Ways, runs: &[Run]) -> Tested 
     Ok(())
 }
 
-/// The same in each of these ways.
+/// Checks the same in each of these ways.
 fn rests(rt: &impl Abort, alloc: Global, all: &[Ways], runs: &[Run]) -> Tested {
     for ways in all {
         rests_in(rt, alloc, *ways, runs)?;
@@ -314,7 +315,7 @@ fn rests(rt: &impl Abort, alloc: Global, all: &[Ways], runs: &[Run]) -> Tested {
     Ok(())
 }
 
-/// Each of these scripts comes to rest by itself.
+/// Checks that each of these scripts comes to rest by itself.
 fn rests_itself_in(rt: &impl Abort, alloc: Global, ways: Ways, runs: &[Whole]) -> Tested {
     for (over, rows, rest) in runs {
         rests_over(rt, alloc, *over, ways, &[*rows], *rest)?;
@@ -322,7 +323,7 @@ fn rests_itself_in(rt: &impl Abort, alloc: Global, ways: Ways, runs: &[Whole]) -
     Ok(())
 }
 
-/// The same in each of these ways.
+/// Checks the same in each of these ways.
 fn rests_itself(rt: &impl Abort, alloc: Global, all: &[Ways], runs: &[Whole]) -> Tested {
     for ways in all {
         rests_itself_in(rt, alloc, *ways, runs)?;
@@ -356,14 +357,14 @@ fn a_response_comes_to_rest(rt: HostRuntime) -> Tested {
     rests(&rt, rt.alloc(), &SYNC, &[(RESPONDED, Rest::Whole(1, 0))])
 }
 
-/// Under sync rules nothing would be said of this run.
+/// Checks that nothing is said about this run under sync rules.
 fn is_unsaid_under_sync_rules(rt: &impl Abort, alloc: Global, script: &[Rows]) -> Tested {
     let trace = run_script(alloc, Over::Plain, ASYNC[0], script)?;
     let terms = terms_of(Over::Plain, SYNC[0].rules);
     reads(rt, alloc, terms, trace.as_slice(), script, Rest::Unsaid)
 }
 
-/// Under sync rules nothing is said where a handler gives an error.
+/// Under sync rules nothing is said about a run if a handler returns an error.
 #[test]
 fn an_error_comes_to_rest_under_async_rules(rt: HostRuntime) -> Tested {
     rests(
@@ -389,7 +390,7 @@ fn streams_come_to_rest(rt: HostRuntime) -> Tested {
     rests(&rt, rt.alloc(), &ALL_WAYS, MEETINGS)
 }
 
-/// Nothing is said of a run with one of these acts, though its call is answered, and nothing moves in the end.
+/// Nothing is said about a run with one of these acts, though its call is answered, and no bytes are moved in the end.
 const UNSAID: &[Rows] = &[
     &[(DropCall(1), Done)],
     &[(Drain, Done)],
@@ -397,7 +398,7 @@ const UNSAID: &[Rows] = &[
     &[(Recv(1), Others("unknown stream"))],
 ];
 
-/// Nor of one whose call is answered, with one of these acts.
+/// Checks that nothing is said about a run with an answered call and one of these acts.
 fn are_unsaid(rt: &impl Abort, alloc: Global, acts: &[Rows]) -> Tested {
     for act in acts {
         rests_behind(rt, alloc, ASYNC[0], ANSWERED, act, Rest::Unsaid)?;
@@ -405,10 +406,10 @@ fn are_unsaid(rt: &impl Abort, alloc: Global, acts: &[Rows]) -> Tested {
     Ok(())
 }
 
-/// Nor of one without the last try for a job, or without an answer.
+/// Nothing is said about a run without the last take, or without an answer.
 const UNDONE: &[Run] = &[(UNTAKEN, Rest::Unsaid), (UNANSWERED, Rest::Unsaid)];
 
-/// Nor of one that doesn't say that nothing more moves.
+/// Nothing is said about a run that doesn't end with bytes at rest.
 const RESTLESS: &[Whole] = &[(Over::Plain, ANSWERED, Rest::Unsaid)];
 
 #[test]
@@ -418,14 +419,14 @@ fn nothing_is_said_of_other_runs(rt: HostRuntime) -> Tested {
     rests_itself_in(&rt, rt.alloc(), ASYNC[0], RESTLESS)
 }
 
-/// Items are moved up byte by byte, their stream ends, and nothing more moves.
+/// Items are moved up byte by byte, their stream ends, and no more bytes are moved.
 #[rattlefmt::skip]
 const MOVED_TO_REST: &[(Over, &[Rows])] = &[
     (Over::Plain, &[QUEUED, MOVED, RECEIVED, ENDED, AT_REST]),
     (Over::Stamps, &[QUEUED, STAMPED_MOVED, RECEIVED, ENDED, AT_REST]),
 ];
 
-/// Three items were given upwards.
+/// Three items were received at the server.
 const THREE_ITEMS: Counts = Counts {
     items_up: 3,
     ends_up: 2,
@@ -433,7 +434,7 @@ const THREE_ITEMS: Counts = Counts {
     ends_down: 1,
 };
 
-/// Three items were given upwards, and all that was put in.
+/// Checks that three items were received at the server, and everything that was sent.
 fn is_given(rt: &impl Abort, alloc: Global, ways: Ways, over: Over, script: &[Rows]) -> Tested {
     let trace = run_script(alloc, over, ways, script)?;
     let terms = terms_of(over, ways.rules);
@@ -464,14 +465,15 @@ fn items_come_to_rest_byte_by_byte(rt: HostRuntime) -> Tested {
 
 // ---- responses that are too long
 
-/// What stands for a response of a byte more than a message may have.
+/// The message that replaces a response with one byte more than a message may have.
 const ABOVE_MESSAGE: &str = "message length 4194305 exceed maximum message size of 4194304";
 
-/// And for one of a byte more than a half that stamps may seal.
+/// The message that replaces a response with one byte more than a half that stamps may seal.
 const ABOVE_LIMIT: &str =
     "response payload 4194304 bytes exceeds safe limit 4194303 bytes (after transform overhead)";
 
-/// The call's response has a present empty status, and a payload that is too long: its call is told this instead.
+/// The call's response has a status that is present and empty, and a payload that is too long. Its call gets this
+/// message instead.
 const TOO_LONG: Rows = &[
     (AnswerSevens(1, 4194298), Done),
     (CarryDown(ALL), Moved),
@@ -486,7 +488,7 @@ const STAMPED_TOO_LONG: Rows = &[
     (Outcome(1), Status(3, ABOVE_LIMIT)),
 ];
 
-/// The run is whole.
+/// Checks that the run is whole.
 fn is_replaced(rt: &impl Abort, alloc: Global, over: Over, ways: Ways, answer: Rows) -> Tested {
     let script = [UNANSWERED, answer, AT_REST];
     rests_over(rt, alloc, over, ways, &script, Rest::Whole(1, 0))
@@ -498,8 +500,8 @@ fn a_response_too_long_comes_to_rest(rt: HostRuntime) -> Tested {
     is_replaced(&rt, rt.alloc(), Over::Stamps, SYNC[0], STAMPED_TOO_LONG)
 }
 
-/// A delivery takes the first of two requests, whose own answer leaves too little room for the second. That one is delivered
-/// after the long response has left.
+/// A delivery takes the first of two requests, since the answer to it leaves too little room for the second. The second
+/// is delivered after the long response has left.
 const TAKEN_IN_PART: Rows = &[
     (Call(b"\x2a", 0), Named(1)),
     (CarryUp(30), Count(30)),
@@ -540,18 +542,18 @@ fn a_delivery_that_takes_a_front_comes_to_rest(rt: HostRuntime) -> Tested {
 
 // ---- traces from which something is kept back
 
-/// At a place of a trace, the act whose reply is another one, and what is told of that.
+/// A place of a trace, the act with another reply, and that reply.
 type Other = (usize, Act, Said);
 
-/// A script, each way in which its trace is told otherwise, and what is read then.
+/// A script, the changes to its trace, and the result of each.
 type Fault = (Rows, &'static [&'static [Other]], Rest);
 
-/// Another reply for an entry. The first one is let go by a call, so that the proof needn't read how.
+/// Sets another reply for an entry. The first one is dropped by a call, so that the proof needn't read how.
 fn put_reply(entry: &mut Entry, reply: Reply) {
     mem::drop(mem::replace(&mut entry.reply, reply));
 }
 
-/// Another reply at a place.
+/// Sets another reply at a place.
 fn tamper(alloc: Global, trace: &mut Trace, other: Other) -> Tested {
     let (at, act, said) = other;
     let Some(entry) = trace.get_mut(at) else {
@@ -568,7 +570,7 @@ fn tamper_all(alloc: Global, trace: &mut Trace, others: &[Other]) -> Tested {
     Ok(())
 }
 
-/// Such a trace is clean and quiet, and this is wrong with it.
+/// Checks that such a trace is clean and quiet, and has this fault.
 fn is_found(rt: &impl Abort, alloc: Global, trace: &[Entry], rest: Rest) -> Tested {
     let terms = terms_of(Over::Plain, ASYNC[0].rules);
     assert!(rt; is_clean(terms.rules, trace));
@@ -576,7 +578,7 @@ fn is_found(rt: &impl Abort, alloc: Global, trace: &[Entry], rest: Rest) -> Test
     is_rest(rt, alloc, terms, trace, rest)
 }
 
-/// What is wrong with the trace that is told otherwise is found.
+/// Checks that the fault of the changed trace is found.
 fn finds(rt: &impl Abort, alloc: Global, rows: Rows, others: &[Other], rest: Rest) -> Tested {
     let mut trace = run_script(alloc, Over::Plain, ASYNC[0], &[rows, AT_REST])?;
     had_memory(trace.as_slice())?;
@@ -584,7 +586,7 @@ fn finds(rt: &impl Abort, alloc: Global, rows: Rows, others: &[Other], rest: Res
     is_found(rt, alloc, trace.as_slice(), rest)
 }
 
-/// It is in each way.
+/// Checks that the fault is found for each change.
 fn finds_each(rt: &impl Abort, alloc: Global, fault: &Fault) -> Tested {
     let (rows, each, rest) = *fault;
     for others in each {
@@ -612,7 +614,7 @@ fn calls_that_are_not_whole_are_found(rt: HostRuntime) -> Tested {
     finds_all(&rt, rt.alloc(), BROKEN_CALLS)
 }
 
-/// A server runs no handler, and answers by a status.
+/// A server runs no handler, and answers with a status.
 const UNRUN_CALL: &[Other] = &[
     (3, Take, NoJob),
     (5, Answer(1, b"\x2b"), NoStep),

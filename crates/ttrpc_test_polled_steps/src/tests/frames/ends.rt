@@ -1,4 +1,4 @@
-//! A reader and a writer that do as a test sets them to, and how futures over them are run.
+//! A reader and a writer with the manners that a test sets, and the runs of futures over them.
 ghost use Rattle.std.specs.Prelude.{◌≡◌, ⊤};
 
 use futures::Future;
@@ -14,12 +14,12 @@ use tokio::io::{AsyncRead, AsyncWrite};
 use tokio::runtime::LocalRuntime;
 use ttrpc_wire::values::slices::{behind, front};
 
-/// What the tests need of the system.
+/// The parts of the system that the tests use.
 pub trait System: AllocGlobal + Clock + Wait + Net + RandomSource {}
 
 impl<R: AllocGlobal + Clock + Wait + Net + RandomSource> System for R {}
 
-/// Runs a future, and returns what it comes to.
+/// Runs a future, and returns its output.
 pub fn come<R: System, F: Future>(rt: &R, future: F) -> Result<F::Output, Fail>
     requires { F.can_poll future }
 {
@@ -27,18 +27,18 @@ pub fn come<R: System, F: Future>(rt: &R, future: F) -> Result<F::Output, Fail>
     Ok(runtime.block_on(rt, future)?)
 }
 
-/// Where bytes come from, so many a read, and none at every second poll.
+/// A reader that gives at most `at_once` bytes a read, and is pending at every second poll.
 #[derive(Drop)]
 pub struct Slow<'a> {
     pub rest: &'a [u8],
     pub at_once: usize,
-    /// What the end is: that of the input, or this failure.
+    /// The end: that of the input, or this failure.
     pub end: Option<ErrorKind>,
     waits: bool,
 }
 
 impl<'a> Slow<'a> {
-    /// Makes a reader of these bytes, and then the end.
+    /// Returns a reader of these bytes, with this end after them.
     pub fn new(rest: &'a [u8], at_once: usize, end: Option<ErrorKind>) -> Slow<'a> {
         Slow {
             rest,
@@ -73,22 +73,22 @@ impl AsyncRead for Slow<'_> {
     }
 }
 
-/// Where bytes go to, so many a write, and none at every second poll.
+/// A writer that takes at most `at_once` bytes a write, and is pending at every second poll.
 #[derive(Drop)]
 pub struct Narrow {
     pub took: Vec<u8>,
     pub at_once: usize,
-    /// How many bytes it takes in all, and what is answered behind them: that none was taken, or this failure.
+    /// The number of bytes that it takes in all, and the failure after them. Without a failure it takes nothing then.
     pub room: usize,
     pub end: Option<ErrorKind>,
-    /// How often it took something, and was flushed.
+    /// The number of times that it took something, and the number of flushes.
     pub offers: u32,
     pub flushes: u32,
     waits: bool,
 }
 
 impl Narrow {
-    /// Makes a writer that took nothing yet.
+    /// Returns a writer that has taken nothing.
     pub fn new(took: Vec<u8>, at_once: usize, room: usize, end: Option<ErrorKind>) -> Narrow {
         Narrow {
             took,

@@ -1,4 +1,4 @@
-//! What is told of whole frames and of cut input, as the blocking forms tell it. All bytes are written by hand.
+//! The results of whole frames and of cut input, which are those of the blocking forms. All bytes are written by hand.
 use crate::tests::frames::ends::{Slow, System, come};
 use std::alloc::{AllocError, Global};
 use std::io::ErrorKind;
@@ -8,18 +8,18 @@ use ttrpc_message::Message;
 use ttrpc_polled_frames::{AsMessage, AsParts, AsValue, PollRead, ReadHeader, Tells};
 use ttrpc_proto::{Error, GenMessage, GenMessageError, MessageHeader, Request, Result};
 
-/// A header of type 1 and flags 239, a request of 67 bytes, and two bytes of another frame.
+/// A header with the type 1 and the flags 239, a request of 67 bytes, and two bytes of another frame.
 const ASKED: &[u8] =
     b"\0\0\0\x43\0\x12\x34\x56\x01\xef\x0a\x11grpc.TestServices\x12\x04Test\x1a\x09\x01\x02\x03\x04\x05\x06\x07\x08\x09\x20\x80\xda\xc4\x09\x2a\x18\x0a\x09test_key1\x12\x0btest_value1\0\0";
 
-/// Three bytes of a header; a header of five bytes, and nothing; the same with two bytes.
+/// Three bytes of a header. A header that states five bytes, without any of them. The same with two of them.
 const SHORT: &[u8] = b"\0\0\0";
 
 const BARE: &[u8] = b"\0\0\0\x05\0\0\0\x01\x01\0";
 
 const CUT: &[u8] = b"\0\0\0\x05\0\0\0\x01\x01\0ab";
 
-/// A header that states one byte too many, and two of these.
+/// A header that states one byte too many, and two of its bytes.
 const LONG: &[u8] = b"\0\x40\0\x01\0\0\0\x05\x01\0ab";
 
 /// An empty message, and one that isn't a request.
@@ -32,11 +32,11 @@ const GONE: &str = "socket err: socket disconnected";
 const TOO_LONG: &str =
     "rpc status: 3 message length 4194305 exceed maximum message size of 4194304";
 
-/// Some input, and what is told of it: as a header and its bytes, as a message, and as a request. Of an open text the beginning
-/// is given.
+/// Some input, and its texts: as a header and its bytes, as a message, and as a request. If a text isn't specified in
+/// full, only its beginning is given.
 type Row = (&'static [u8], &'static str, &'static str, &'static str);
 
-/// Returns the row of this number, from 0.
+/// Returns the row with this number, from 0.
 fn row(number: u8) -> Option<Row> {
     Some(match number {
         0 => (
@@ -71,7 +71,7 @@ fn row(number: u8) -> Option<Row> {
     })
 }
 
-/// Returns an error's text behind this one. Want of memory is handed on.
+/// Returns the text `before` and then the error's text. Returns an error if memory was refused.
 fn error_text(
     alloc: Global,
     before: &str,
@@ -83,7 +83,7 @@ fn error_text(
     }
 }
 
-/// What is told, as a text.
+/// The output as a text.
 trait Told: Tells {
     fn told(alloc: Global, told: Self::Output) -> std::result::Result<String, AllocError>;
 }
@@ -145,7 +145,8 @@ impl Told for AsValue<Request> {
     }
 }
 
-/// Returns whether what comes of these bytes, so many a read, is told so, and what follows a frame isn't read.
+/// Returns whether the output for these bytes, with `at_once` bytes a read, has this text, and the bytes after the
+/// frame aren't read.
 fn holds<R: System, T: Told>(
     rt: &R,
     input: &[u8],
@@ -158,7 +159,7 @@ fn holds<R: System, T: Told>(
     Ok(told.as_str().starts_with(expected) && reader.rest.len() == left_of(input))
 }
 
-/// Returns how many bytes stand behind a first frame.
+/// Returns the number of bytes after a first frame.
 fn left_of(input: &[u8]) -> usize {
     match MessageHeader::try_from_slice(input) {
         Some(header) => input
@@ -169,7 +170,7 @@ fn left_of(input: &[u8]) -> usize {
     }
 }
 
-/// Returns whether input that comes so many bytes a read is told as its row says, in each way.
+/// Returns whether input that comes with `at_once` bytes a read has the texts of its row, in each form.
 fn is_told<R: System>(rt: &R, row: Row, at_once: usize) -> std::result::Result<bool, Fail> {
     let (input, parts, message, value) = row;
     Ok(
@@ -191,14 +192,14 @@ fn input_is_told_as_it_is(rt: HostRuntime) -> std::result::Result<(), Fail> {
     Ok(())
 }
 
-/// Makes a header that states 4194305 bytes, and so many.
+/// Returns a header that states 4194305 bytes, and `count` bytes.
 fn oversized(alloc: Global, count: usize) -> std::result::Result<Vec<u8>, Fail> {
     let mut input = Vec::from_slice(alloc, b"\0\x40\0\x01\0\0\0\x05\x01\0")?;
     input.resize(count.saturating_add(10), 7)?;
     Ok(input)
 }
 
-/// Returns whether a frame that is too long is told so, in each way, and read to its end.
+/// Returns whether a frame that is too long is reported as such, in each form, and read to its end.
 fn is_too_long<R: System>(rt: &R, input: &[u8]) -> std::result::Result<bool, Fail> {
     let returned = "return rpc status: 3 message length 4194305";
     Ok(
@@ -214,7 +215,7 @@ fn a_frame_that_is_too_long_is_read_to_its_end(rt: HostRuntime) -> std::result::
     check_named("it is told otherwise", is_too_long(&rt, input.as_slice())?)
 }
 
-/// Returns whether a reader's failure behind this input is told, and not as an end.
+/// Returns whether a reader's failure after this input is reported, and not as an end.
 fn is_told_of_failure<R: System>(rt: &R, input: &[u8]) -> std::result::Result<bool, Fail> {
     let reader = Slow::new(input, 3, Some(ErrorKind::ConnectionReset));
     let reading: PollRead<_, AsParts> = PollRead::new(rt.alloc(), reader);
@@ -222,6 +223,7 @@ fn is_told_of_failure<R: System>(rt: &R, input: &[u8]) -> std::result::Result<bo
     Ok(told.as_str().starts_with("socket err: ") && told.as_str() != GONE)
 }
 
+// Should fail if a read or write of a frame yields forever, or tries again after each failure.
 #[test]
 fn a_readers_failure_is_told(rt: HostRuntime) -> std::result::Result<(), Fail> {
     for input in [b"" as &[u8], SHORT, BARE, CUT, LONG] {
@@ -241,14 +243,14 @@ const READ: MessageHeader = MessageHeader {
     flags: 239,
 };
 
-/// Returns whether a header is read, and no byte behind it.
+/// Returns whether a header is read, and no byte after it.
 fn is_read_alone<R: System>(rt: &R, at_once: usize) -> std::result::Result<bool, Fail> {
     let mut reader = Slow::new(ASKED, at_once, None);
     let header = come(rt, ReadHeader::new(&mut reader))??;
     Ok(header == READ && reader.rest.len() == 69)
 }
 
-/// Returns what is told where a header is cut, by its end or by this failure.
+/// Returns the error of a header that is cut, by its end or by this failure.
 fn told_of_cut<R: System>(
     rt: &R,
     end: Option<ErrorKind>,

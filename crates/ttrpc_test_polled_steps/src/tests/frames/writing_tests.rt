@@ -1,4 +1,4 @@
-//! What a writer takes of frames, and what is told where it takes no more.
+//! The bytes of frames that a writer takes, and the errors if it takes no more.
 use crate::tests::frames::ends::{Narrow, System, come};
 use std::alloc::Global;
 use std::io::{self, ErrorKind};
@@ -9,7 +9,7 @@ use ttrpc_polled_frames::{AsValue, PollRead, PollWrite, WriteHeader, WriteMessag
 use ttrpc_proto::{GenMessage, MessageHeader, Request, Result};
 use ttrpc_wire::Blob;
 
-/// A header that states another length than its payload has, which is written as it stands, and the payload.
+/// A header that states another length than its payload has, and the payload. The header is written as it is.
 const FRAME: &[u8] = b"\0\0\0\x09\0\0\0\x03\x03\x05abc";
 
 const HEADER: MessageHeader = MessageHeader {
@@ -26,7 +26,7 @@ fn message_of(alloc: Global) -> std::result::Result<GenMessage, Fail> {
     })
 }
 
-/// Returns what is told, as a text.
+/// Returns the result as a text.
 fn told(alloc: Global, ended: Result<()>) -> std::result::Result<String, Fail> {
     Ok(match ended {
         Ok(()) => String::from_str(alloc, "ok")?,
@@ -34,19 +34,19 @@ fn told(alloc: Global, ended: Result<()>) -> std::result::Result<String, Fail> {
     })
 }
 
-/// Writes the frame, which is flushed.
+/// Writes the frame with a flush.
 fn write_message<R: System>(rt: &R, writer: &mut Narrow) -> std::result::Result<Result<()>, Fail> {
     let message = message_of(rt.alloc())?;
     come(rt, WriteMessage::of_gen(rt.alloc(), writer, &message)?)
 }
 
-/// Writes it by its header and payload alone.
+/// Writes the frame's header and payload, without a flush.
 fn write_parts<R: System>(rt: &R, writer: &mut Narrow) -> std::result::Result<Result<()>, Fail> {
     let payload: &[u8] = b"abc";
     come(rt, PollWrite::new(rt.alloc(), writer, &HEADER, payload)?)
 }
 
-/// Writes the frame to a writer with so much room, and says what was told, what it took, and how often it was flushed.
+/// Writes the frame to a writer with this room. Returns the result as a text, and the writer.
 fn write<R: System>(
     rt: &R,
     flushes: bool,
@@ -63,11 +63,12 @@ fn write<R: System>(
     Ok((told(rt.alloc(), ended)?, writer))
 }
 
-/// Returns whether a writer took these bytes, and was flushed so often.
+/// Returns whether a writer took these bytes, and was flushed this number of times.
 fn has_taken(writer: &Narrow, took: &[u8], flushes: u32) -> bool {
     writer.took.as_slice() == took && writer.flushes == flushes
 }
 
+// Should fail if `PollWrite` flushes; a message is flushed twice.
 #[test]
 fn frames_are_written_whole(rt: HostRuntime) -> std::result::Result<(), Fail> {
     for flushes in [false, true] {
@@ -93,7 +94,7 @@ fn a_front_is_written_where_a_writer_fails(rt: HostRuntime) -> std::result::Resu
     Ok(())
 }
 
-/// Returns what is told where a writer takes 11 bytes of a frame, and then nothing.
+/// Returns the result as a text if a writer takes 11 bytes of a frame, and then nothing.
 fn told_of_full<R: System>(rt: &R, flushes: bool) -> std::result::Result<String, Fail> {
     let (told, _) = write(rt, flushes, 4, 11, None)?;
     Ok(told)
@@ -108,7 +109,7 @@ fn a_writer_that_takes_nothing_is_told(rt: HostRuntime) -> std::result::Result<(
     check_named("it is told otherwise", is_so)
 }
 
-/// A header of type 1 and flags 239, and a request of 67 bytes.
+/// A header with the type 1 and the flags 239, and a request of 67 bytes.
 const ASKED: &[u8] =
     b"\0\0\0\x43\0\x12\x34\x56\x01\xef\x0a\x11grpc.TestServices\x12\x04Test\x1a\x09\x01\x02\x03\x04\x05\x06\x07\x08\x09\x20\x80\xda\xc4\x09\x2a\x18\x0a\x09test_key1\x12\x0btest_value1";
 
@@ -138,7 +139,7 @@ fn a_value_is_read_and_written_again(rt: HostRuntime) -> std::result::Result<(),
     check_named("other bytes are written", is_so)
 }
 
-/// Writes a header, and returns what comes of it, to a writer with so much room.
+/// Writes a header to a writer with this room. Returns the result and the writer.
 fn write_header<R: System>(
     rt: &R,
     room: usize,
@@ -154,20 +155,22 @@ fn is_header_written<R: System>(rt: &R) -> std::result::Result<bool, Fail> {
     Ok(written.is_ok() && writer.took.as_slice() == &FRAME[..10] && writer.flushes == 1)
 }
 
-/// Returns whether a writer that takes four bytes, and then nothing, is told so.
+/// Returns whether a writer that takes four bytes, and then nothing, gives the right error.
 fn is_header_refused<R: System>(rt: &R) -> std::result::Result<bool, Fail> {
     let (refused, _) = write_header(rt, 4)?;
     let told = refused.err().map(|error| error.kind());
     Ok(told == Some(ErrorKind::WriteZero))
 }
 
+// Should fail if a header is flushed twice.
 #[test]
 fn headers_are_written_alone(rt: HostRuntime) -> std::result::Result<(), Fail> {
     let is_so = is_header_written(&rt)? && is_header_refused(&rt)?;
     check_named("it is told otherwise", is_so)
 }
 
-/// Returns how many bytes a writer takes of the frame of so many, and by how many offers.
+/// Returns the number of bytes that a writer takes of the frame of a payload with `length` bytes, and the number of
+/// writes.
 fn offers_of<R: System>(rt: &R, length: usize) -> std::result::Result<(usize, u32), Fail> {
     let alloc = rt.alloc();
     let payload = vec![in alloc; 7u8; length]?;
@@ -176,7 +179,8 @@ fn offers_of<R: System>(rt: &R, length: usize) -> std::result::Result<(usize, u3
     Ok((writer.took.len(), writer.offers))
 }
 
-/// The payloads whose frames a page has just, and one byte more: how many offers are made.
+/// Frames that fit in a page, and one with a byte more: the number of writes.
+// Should fail if less than a page is offered first.
 #[test]
 fn a_page_has_the_first_offer(rt: HostRuntime) -> std::result::Result<(), Fail> {
     for (length, offers) in [(4085, 1), (4086, 1), (4087, 2)] {
