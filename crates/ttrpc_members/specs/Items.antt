@@ -1,4 +1,4 @@
--- Items: what one value of a member is written as, and what the value of a field makes of it.
+-- Items: how one value of a member is written, and how the value of a field changes it.
 -- Source: the Protocol Buffers encoding guide, "Message Structure", "More Integer Types" and "Length-Delimited Records".
 use Rattle.std.specs.Prelude.{◌≡◌, ℕ, zero, suc, ◌+◌, ◌*◌, ◌/◌, ◌%◌, ◌<◌, ◌^◌, List, [], ◌∷◌, Option, Some, None, Bool, true, false, ◌==◌, if◌then◌else◌, ℤ, pos, negsuc, FitsSigned}
 use Rattle.std.specs.Option.{option_map}
@@ -11,8 +11,8 @@ use Rattle.ttrpc_wire.specs.Number.{number_of, int32_of, int64_of}
 use Rattle.ttrpc_wire.specs.Fold.{read_from}
 use Rattle.ttrpc_members.specs.Nesting.{with_more}
 
--- An item: its values, the one that an absent field stands for, the wire type and the value that are written for one, and
--- what a field's value makes of the item before it: none, where that has another wire type; an item; or a refusal.
+-- An item: its values, the one that an absent field means, the wire type and the value that are written for one, and how a field's value
+-- changes the item. The result is none if the field's value has another wire type, or an item, or a refusal.
 pub record Item (A : Type 0) : Type 1 where
   pub is_value : A → Type 0
   pub first : A
@@ -23,19 +23,19 @@ pub record Item (A : Type 0) : Type 1 where
 
 -- ---- texts, bytes and messages
 
--- whether there are none
+-- true if the list is empty
 abbrev pub is_nil : List ℕ → Bool
 is_nil [] = true
 is_nil (b ∷ bytes) = false
 
--- what a length-delimited value makes of an item; others are passed over
+-- the effect of a length-delimited value on an item; other values are ignored
 abbrev pub read_delimited : {A : Type 0} → (A → List ℕ → Option A) → A → Value → Option (Option A)
 read_delimited read old (LengthDelimited b) = option_map (λ x. Some x) (read old b)
 read_delimited read old (Varint n) = Some None
 read_delimited read old (Fixed64 n) = Some None
 read_delimited read old (Fixed32 n) = Some None
 
--- bytes that are UTF-8 are that text, and others are refused
+-- bytes that are UTF-8 are this text, and other bytes are refused
 abbrev pub new_text : List ℕ → List ℕ → Option (List ℕ)
 new_text old b = if is_utf8 b then Some b else None
 
@@ -43,7 +43,7 @@ new_text old b = if is_utf8 b then Some b else None
 abbrev pub text : Item (List ℕ)
 text = record { is_value = IsUtf8; first = []; is_first = is_nil; wire_type = wire.LengthDelimited; value = LengthDelimited; read = read_delimited new_text }
 
--- any bytes are taken
+-- any bytes are accepted
 abbrev pub new_bytes : List ℕ → List ℕ → Option (List ℕ)
 new_bytes old b = Some b
 
@@ -51,7 +51,7 @@ new_bytes old b = Some b
 abbrev pub bytes : Item (List ℕ)
 bytes = record { is_value = λ _. Unit {0}; first = []; is_first = is_nil; wire_type = wire.LengthDelimited; value = LengthDelimited; read = read_delimited new_bytes }
 
--- a message, by its values, the one of no fields, its step and its fields: more of it goes on from what there was
+-- a message, by its values, the message without fields, its step and its fields; more of it continues the message that there was
 abbrev pub nested : {M : Type 0} → (M → Type 0) → M → (M → Field → Option M) → (M → List Field) → Item M
 nested is_value empty step fields = record {
   is_value = is_value;
@@ -62,8 +62,7 @@ nested is_value empty step fields = record {
   read = read_delimited (read_from step);
 }
 
--- a message that may contain the one that it is in, kept as its bytes, where takes tells whether bytes are taken: more of it goes behind
--- what there was
+-- a message that may contain the one that it is in, kept as its bytes, with a check that accepts bytes or not; more of it is appended
 abbrev pub enclosed : (List ℕ → Option (Unit {0})) → Item (List ℕ)
 enclosed takes = record {
   is_value = λ b. takes b ≡ Some tt;
@@ -76,27 +75,27 @@ enclosed takes = record {
 
 -- ---- numbers
 
--- How numbers are coded: what they are, the number that is written for one, and the one that a number stands for.
+-- A coding of numbers: its values, the number that is written for one, and the value that a number means.
 pub record Coding (A : Type 0) : Type 1 where
   pub is_value : A → Type 0
   pub code : A → ℕ
   pub decode : ℕ → A
 
--- what a varint makes of an item
+-- the effect of a varint on an item
 abbrev pub read_varint : {A : Type 0} → (ℕ → A) → A → Value → Option (Option A)
 read_varint decode old (Varint n) = Some (Some (decode n))
 read_varint decode old (LengthDelimited b) = Some None
 read_varint decode old (Fixed64 n) = Some None
 read_varint decode old (Fixed32 n) = Some None
 
--- what eight bytes make of an item
+-- the effect of eight bytes on an item
 abbrev pub read_fixed64 : {A : Type 0} → (ℕ → A) → A → Value → Option (Option A)
 read_fixed64 decode old (Fixed64 n) = Some (Some (decode n))
 read_fixed64 decode old (LengthDelimited b) = Some None
 read_fixed64 decode old (Varint n) = Some None
 read_fixed64 decode old (Fixed32 n) = Some None
 
--- what four bytes make of an item
+-- the effect of four bytes on an item
 abbrev pub read_fixed32 : {A : Type 0} → (ℕ → A) → A → Value → Option (Option A)
 read_fixed32 decode old (Fixed32 n) = Some (Some (decode n))
 read_fixed32 decode old (LengthDelimited b) = Some None
@@ -136,7 +135,7 @@ abbrev pub boolean_code : Bool → ℕ
 boolean_code true = 1
 boolean_code false = 0
 
--- what a number says
+-- the truth value of a number
 abbrev pub boolean_of : ℕ → Bool
 boolean_of zero = false
 boolean_of (suc n) = true
@@ -145,12 +144,12 @@ boolean_of (suc n) = true
 abbrev pub boolean : Coding Bool
 boolean = record { is_value = λ _. Unit {0}; code = boolean_code; decode = boolean_of }
 
--- zigzag: numbers from 0 on are the even ones, and those below are the odd ones
+-- zigzag: values from 0 on are the even numbers, and values below are the odd ones
 abbrev pub zigzag : ℤ → ℕ
 zigzag (pos n) = 2 * n
 zigzag (negsuc n) = 2 * n + 1
 
--- the number that a zigzag stands for
+-- the value that a zigzag number means
 abbrev pub unzigzag : ℕ → ℤ
 unzigzag n = if n % 2 == 0 then pos (n / 2) else negsuc (n / 2)
 

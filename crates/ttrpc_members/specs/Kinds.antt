@@ -1,4 +1,4 @@
--- Kinds of members: what a field's value makes of one, and the values that are written for it.
+-- Kinds of members: how a field's value changes a member, and the values that are written for it.
 -- Source: the Protocol Buffers language guide for proto3, "Specifying Field Cardinality", and the encoding guide, "Last One Wins"
 -- and "Repeated Elements".
 use Rattle.std.specs.Prelude.{ℕ, zero, suc, List, [], ◌∷◌, ◌++◌, length, Option, Some, None, Bool, true, false, if◌then◌else◌, map, unwrap_or}
@@ -8,50 +8,50 @@ use Rattle.ttrpc_wire.specs.Field.{Value, Varint, Fixed64, LengthDelimited, Fixe
 use Rattle.ttrpc_wire.specs.Reading.{◌>>=◌, value_at}
 use Rattle.ttrpc_members.specs.Items.{Item}
 
--- A member: its values, the one before any field, what the value of one more field makes of it or that it is refused, and the values
--- that are written, in order.
+-- A member: its values, the one before any field, the effect of one more field's value or its refusal, and the values that are written, in
+-- order.
 pub record Kind (A : Type 0) : Type 1 where
   pub is_value : A → Type 0
   pub empty : A
   pub take : A → Value → Option A
   pub values : A → List Value
 
--- ---- one item: the last one wins, and the first one is left out
+-- ---- one item: the last value wins, and the first item is left out
 
--- what was taken, or the old item where nothing was
+-- the item that was taken, or the old item if none was
 abbrev pub taken_or : {A : Type 0} → A → Option A → A
 taken_or old None = old
 taken_or old (Some x) = x
 
--- what a value makes of it
+-- the item after a value
 unfoldable pub single_take : {A : Type 0} → Item A → A → Value → Option A
 single_take i old v = option_map (taken_or old) (i.read old v)
 
--- the value of an item that isn't the first one
+-- the value of an item, if it isn't the first one
 unfoldable pub single_values : {A : Type 0} → Item A → A → List Value
 single_values i x = if i.is_first x then [] else i.value x ∷ []
 
--- one item, which is left out where it is the first one
+-- one item, which is left out if it is the first one
 abbrev pub single : {A : Type 0} → Item A → Kind A
 single i = record { is_value = i.is_value; empty = i.first; take = single_take i; values = single_values i }
 
--- ---- one item that may be absent, and is written also where it is the first one
+-- ---- one item that may be absent, and is written even if it is the first one
 
--- what was taken, or what there was
+-- the item that was taken, or the one that there was
 abbrev pub taken_else : {A : Type 0} → Option A → Option A → Option A
 taken_else old None = old
 taken_else old (Some x) = Some x
 
--- what a value makes of it: more of a message goes on from what there was
+-- the item after a value; more of a message continues the message that there was
 unfoldable pub optional_take : {A : Type 0} → Item A → Option A → Value → Option (Option A)
 optional_take i old v = option_map (taken_else old) (i.read (unwrap_or old i.first) v)
 
--- the value of an item that is there
+-- the value of an item, if there is one
 unfoldable pub optional_values : {A : Type 0} → Item A → Option A → List Value
 optional_values i None = []
 optional_values i (Some x) = i.value x ∷ []
 
--- a member that is absent, or is valid
+-- a member that is absent or valid
 abbrev pub IsOptional : {A : Type 0} → (A → Type 0) → Option A → Type 0
 IsOptional Is None = Unit {0}
 IsOptional Is (Some x) = Is x
@@ -62,7 +62,7 @@ optional i = record { is_value = IsOptional i.is_value; empty = None; take = opt
 
 -- ---- items of a list, one by one
 
--- with one more at the end, where one was taken
+-- the list with one more item at the end, if one was taken
 abbrev pub one_more : {A : Type 0} → List A → Option A → List A
 one_more old None = old
 one_more old (Some x) = old ++ x ∷ []
@@ -98,16 +98,16 @@ packed_take i old (Varint n) = repeated_take i old (Varint n)
 packed_take i old (Fixed64 n) = repeated_take i old (Fixed64 n)
 packed_take i old (Fixed32 n) = repeated_take i old (Fixed32 n)
 
--- the bytes of the values, one behind the other
+-- the bytes of the values, one after the other
 unfoldable pub packed_bytes : {A : Type 0} → Item A → List A → List ℕ
 packed_bytes i xs = flat_map (λ x. value_bytes (i.value x)) xs
 
--- whether there are none
+-- true if the list is empty
 abbrev pub is_nil : {A : Type 0} → List A → Bool
 is_nil [] = true
 is_nil (x ∷ xs) = false
 
--- one value for all numbers, and none where there are none
+-- one value for all numbers, and none if there are no numbers
 unfoldable pub packed_values : {A : Type 0} → Item A → List A → List Value
 packed_values i xs = if is_nil xs then [] else LengthDelimited (packed_bytes i xs) ∷ []
 

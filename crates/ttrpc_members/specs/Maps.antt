@@ -1,4 +1,4 @@
--- Maps: a list of entries, each a message of a key and a value; of two with one key the last one wins.
+-- Maps: a list of entries, each a message of a key and a value. The last of several entries with one key wins.
 -- Source: the Protocol Buffers language guide for proto3, "Maps".
 use Rattle.std.specs.Prelude.{◌≡◌, List, [], ◌∷◌, Option, Some, None}
 use Rattle.std.specs.List.{AllByRecursion}
@@ -14,7 +14,7 @@ use Rattle.ttrpc_members.specs.Schema.{Part, member, none, with_part, message_of
 abbrev pub always : {A : Type 0} → Item A → Kind A
 always i = record { is_value = i.is_value; empty = i.first; take = single_take i; values = λ x. i.value x ∷ [] }
 
--- an entry as a message: member 1 is its key, and member 2 its value; each is the first item where it is absent
+-- an entry as a message: member 1 is its key, and member 2 its value; each is the first item if it is absent
 abbrev pub entry : {K V : Type 0} → Item K → Item V → Part (K × V)
 entry key value = message_of (with_part (with_part none (member 1 (always key))) (member 2 (always value))) (λ e. ((tt, e.0), e.1)) (λ x. (x.0.1, x.1))
 
@@ -22,7 +22,7 @@ entry key value = message_of (with_part (with_part none (member 1 (always key)))
 abbrev pub entry_item : {K V : Type 0} → Item K → Item V → Item (K × V)
 entry_item key value = nested (entry key value).is_value (entry key value).empty (entry key value).step (entry key value).fields
 
--- the entries with one more, in the place of an earlier one of its key
+-- the entries with one more, in place of an earlier entry with its key
 abbrev pub inserted : {K V : Type 0} → (K → K → Ordering) → List (K × V) → Option (K × V) → List (K × V)
 inserted order old None = old
 inserted order old (Some e) = insert_entry order old e.0 e.1
@@ -31,12 +31,12 @@ inserted order old (Some e) = insert_entry order old e.0 e.1
 unfoldable pub map_take : {K V : Type 0} → (K → K → Ordering) → Item (K × V) → List (K × V) → Value → Option (List (K × V))
 map_take order i old v = option_map (inserted order old) (i.read i.first v)
 
--- the entries with all of these, one after the other
+-- the entries with all these entries inserted, one after the other
 unfoldable pub rebuilt : {K V : Type 0} → (K → K → Ordering) → List (K × V) → List (K × V) → List (K × V)
 rebuilt order old [] = old
 rebuilt order old (e ∷ es) = rebuilt order (insert_entry order old e.0 e.1) es
 
--- Entries in the keys' order, no two of one key: inserting them one after the other gives them.
+-- Entries in the keys' order, no two with one key: inserting them one after the other gives the same list.
 pub record AreEntries {K V : Type 0} (order : K → K → Ordering) (is_value : K × V → Type 0) (es : List (K × V)) : Type 0 where
   pub all : AllByRecursion is_value es
   pub ordered : rebuilt order [] es ≡ es

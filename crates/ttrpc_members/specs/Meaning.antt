@@ -1,4 +1,4 @@
--- What fields mean, member by member, in the guide's words: no step of a decoder. Laws say that members mean it.
+-- The meaning of fields, member by member, in the guide's words, without a step of a decoder. Laws state that members have this meaning.
 -- Source: the Protocol Buffers encoding guide, "Last One Wins", "Repeated Elements", "Packed Repeated Fields", "Maps" and "Oneofs".
 use Rattle.std.specs.Prelude.{ℕ, List, [], ◌∷◌, ◌++◌, Option, Some, None, Bool, ◌==◌, ◌⊎◌, if◌then◌else◌}
 use Rattle.std.specs.Option.{option_map}
@@ -14,7 +14,7 @@ abbrev pub values_at : ℕ → List Field → List Value
 values_at k [] = []
 values_at k (f ∷ fs) = if f.number == k then f.value ∷ values_at k fs else values_at k fs
 
--- the last of them, or this where there is none
+-- the last one of a list, or `x` if the list is empty
 abbrev pub last_or : {A : Type 0} → A → List A → A
 last_or x [] = x
 last_or x (y ∷ ys) = last_or y ys
@@ -45,7 +45,7 @@ fixed32s_in (Fixed64 n ∷ vs) = fixed32s_in vs
 fixed32s_in (LengthDelimited b ∷ vs) = fixed32s_in vs
 fixed32s_in (Fixed32 n ∷ vs) = n ∷ fixed32s_in vs
 
--- the bytes of those that are length-delimited
+-- the bytes of the length-delimited values
 abbrev pub bytes_in : List Value → List (List ℕ)
 bytes_in [] = []
 bytes_in (Varint n ∷ vs) = bytes_in vs
@@ -60,22 +60,22 @@ abbrev pub in_front : {A : Type 0} → Option A → List A → List A
 in_front None xs = xs
 in_front (Some x) xs = x ∷ xs
 
--- the items that the values are, each read by itself; a value of another wire type is none, and one that is refused refuses all
+-- the items of the values, each read by itself; a value of another wire type has no item, and a value that is refused refuses all
 abbrev pub items_in : {A : Type 0} → Item A → List Value → Option (List A)
 items_in i [] = Some []
 items_in i (v ∷ vs) = i.read i.first v >>= λ x. option_map (in_front x) (items_in i vs)
 
--- numbers as they come in one field: one by itself, or several in one value
+-- numbers as they come in one field: one alone, or several in one value
 pub data Numbers : Type 0 where
   One : (n : ℕ) → Numbers
   Several : (ns : List ℕ) → Numbers
 
--- varints, one behind the other
+-- varints, one after the other
 abbrev pub varints_bytes : List ℕ → List ℕ
 varints_bytes [] = []
 varints_bytes (n ∷ ns) = varint n ++ varints_bytes ns
 
--- the value that numbers come in
+-- the value of a field with these numbers
 abbrev pub numbers_value : Numbers → Value
 numbers_value (One n) = Varint n
 numbers_value (Several ns) = LengthDelimited (varints_bytes ns)
@@ -94,13 +94,13 @@ message_value fs = LengthDelimited (fields_bytes fs)
 
 -- ---- maps
 
--- the value of the last entry whose key is this, or what was found before
+-- the value of the last entry with this key, or the value that was found before
 abbrev pub last_at : {K V : Type 0} → (K → Bool) → Option V → List (K × V) → Option V
 last_at is found [] = found
 last_at is found (e ∷ es) = last_at is (if is e.0 then Some e.1 else found) es
 
--- ---- members of which at most one is set
+-- ---- choices of members
 
--- one of some members and of one more, of this number, as a part of a message
+-- a choice of some members and of one more, with this number, as a part of a message
 abbrev pub one_more_choice : {S A : Type 0} → Choices S → ℕ → Item A → Part (Option (S ⊎ A))
 one_more_choice c k i = one_of (or_item c k i) (λ s. s) (λ s. s)

@@ -1,4 +1,4 @@
--- Messages that may contain themselves: what the bytes of one have to be, with all below them, and how deep they may nest.
+-- Messages that may contain themselves: the rules for the bytes of one, with all messages below it, and the limit of their nesting.
 -- Source: the Protocol Buffers encoding guide, "Length-Delimited Records"; the limit is that of Protocol Buffers' own implementations.
 use Rattle.std.specs.Prelude.{◌≡◌, ◌≢◌, ℕ, zero, suc, List, [], ◌∷◌, ◌++◌, length, drop, Option, Some, None, ◌==◌, if◌then◌else◌}
 use Rattle.std.specs.Option.{option_map}
@@ -13,16 +13,17 @@ use Rattle.ttrpc_members.specs.declared.nesting.Content.{Content}
 use Rattle.ttrpc_members.specs.declared.nesting.Content.TheVariants as content
 use Rattle.ttrpc_members.specs.declared.nesting.Rule.{Rule}
 
--- what the first of these rules want of a member of their message, up to the first rule of another message
+-- the content that the first of these rules require of a member of their message, up to the first rule of another message
 abbrev pub content_from : List Rule → ℕ → ℕ → Option Content
 content_from [] message number = None
 content_from (r ∷ rules) message number = if r.message == message then (if r.number == number then Some r.content else content_from rules message number) else None
 
--- what the rules want of a member, by its message and its number, if they want anything: a message's rules stand together, from its place on
+-- the content that the rules require of a member, by its message and its number, if they require any; a message's rules lie together, from
+-- its place on
 abbrev pub content_of : List Rule → ℕ → ℕ → Option Content
 content_of rules message number = content_from (drop message rules) message number
 
--- ---- what is taken: `Some tt`, or a refusal
+-- ---- the bytes that are accepted: `Some tt`, or a refusal
 
 -- all of the bytes, as at most k numbers of this wire type
 unfoldable pub numbers_upto : ℕ → WireType → List ℕ → Option (Unit {0})
@@ -38,13 +39,13 @@ numbers_in type bytes = numbers_upto (length bytes) type bytes
 abbrev pub text_in : List ℕ → Option (Unit {0})
 text_in bytes = if is_utf8 bytes then Some tt else None
 
--- bytes of which this is wanted; inner tells whether those of a message are taken
+-- bytes with this required content; `inner` accepts the bytes of a message or not
 abbrev pub content_in : (ℕ → List ℕ → Option (Unit {0})) → Content → List ℕ → Option (Unit {0})
 content_in inner content.Text bytes = text_in bytes
 content_in inner (content.Numbers type) bytes = numbers_in type bytes
 content_in inner (content.Message message) bytes = inner message bytes
 
--- a value of which this is wanted, if anything: where it isn't length-delimited, it is taken
+-- a value with this required content, if any; a value that isn't length-delimited is accepted
 abbrev pub value_in : (ℕ → List ℕ → Option (Unit {0})) → Option Content → Value → Option (Unit {0})
 value_in inner None v = Some tt
 value_in inner (Some c) (LengthDelimited bytes) = content_in inner c bytes
@@ -65,10 +66,10 @@ nested_upto rules (suc k) message bytes = read_from (field_in rules (λ m b. nes
 unfoldable pub within : List Rule → ℕ → List ℕ → Option (Unit {0})
 within rules message bytes = nested_upto rules 100 message bytes
 
--- An error of a check: not that of refused memory; one other than `TooDeep` says that nothing is taken in any number of levels.
+-- An error of a check, which isn't that of refused memory. If it isn't `TooDeep`, nothing is accepted in any number of levels.
 abbrev pub TellsDepth : CodecError → (ℕ → Option (Unit {0})) → Type 0
 TellsDepth e takes = (e ≢ NoMemory) × (e ≢ TooDeep → (k : ℕ) → takes k ≡ None)
 
--- bytes that are taken, behind those that there were
+-- the old bytes, followed by bytes that are accepted
 abbrev pub with_more : (List ℕ → Option (Unit {0})) → List ℕ → List ℕ → Option (List ℕ)
 with_more takes old bytes = option_map (λ _. old ++ bytes) (takes bytes)

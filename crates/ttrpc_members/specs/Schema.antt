@@ -1,4 +1,4 @@
--- A message's schema: its members, each with its number. What a field makes of the message, and the fields that are written.
+-- A message's schema: its members, each with its number. It says how a field changes the message, and which fields are written.
 -- Source: the Protocol Buffers language guide for proto3, "Defining A Message Type", and the encoding guide, "Message Structure".
 use Rattle.std.specs.Prelude.{ℕ, ◌+◌, List, [], ◌∷◌, ◌++◌, length, Option, Some, ◌==◌, if◌then◌else◌, map}
 use Rattle.std.specs.Option.{option_map}
@@ -10,8 +10,8 @@ use Rattle.ttrpc_members.specs.Kinds.{Kind}
 abbrev pub fields_at : ℕ → List Value → List Field
 fields_at k values = map (λ v. record { number = k; value = v }) values
 
--- A part of a message: its values, the one before any field, what one more field makes of it or that it refuses that, the fields that
--- are written, and the numbers that these may have.
+-- A part of a message: its values, the one before any field, the effect of one more field or its refusal, the fields that are written, and
+-- the numbers that these may have.
 pub record Part (A : Type 0) : Type 1 where
   pub is_value : A → Type 0
   pub empty : A
@@ -19,7 +19,7 @@ pub record Part (A : Type 0) : Type 1 where
   pub fields : A → List Field
   pub numbers : List ℕ
 
--- a member of one number; fields of other numbers pass it by
+-- a member with one number; fields of other numbers don't change it
 abbrev pub member : {A : Type 0} → ℕ → Kind A → Part A
 member k kind = record {
   is_value = kind.is_value;
@@ -31,22 +31,22 @@ member k kind = record {
 
 -- ---- the parts of a message, each of which is offered each field
 
--- fields in groups, one group a part, as one list
+-- the fields of all groups, one group for each part, as one list
 unfoldable pub flat : List (List Field) → List Field
 flat [] = []
 flat (fs ∷ groups) = fs ++ flat groups
 
--- bytes with those of each group behind them, one group at a time
+-- bytes followed by those of each group, one group at a time
 abbrev pub appended : List ℕ → List (List Field) → List ℕ
 appended out [] = out
 appended out (fs ∷ groups) = appended (out ++ fields_bytes fs) groups
 
--- the length of each group's bytes, and of those behind it
+-- the length of all groups' bytes
 abbrev pub total : List (List Field) → ℕ
 total [] = 0
 total (fs ∷ groups) = length (fields_bytes fs) + total groups
 
--- Parts: as a part, with the fields of each in a group of its own.
+-- Parts: like a part, with the fields of each in a group of its own.
 pub record Parts (P : Type 0) : Type 1 where
   pub is_value : P → Type 0
   pub empty : P
@@ -58,7 +58,7 @@ pub record Parts (P : Type 0) : Type 1 where
 abbrev pub none : Parts (Unit {0})
 none = record { is_value = λ _. Unit {0}; empty = tt; step = λ m f. Some m; groups = λ m. []; numbers = [] }
 
--- parts, and one behind them
+-- parts, followed by one more
 abbrev pub with_part : {P A : Type 0} → Parts P → Part A → Parts (P × A)
 with_part p q = record {
   is_value = λ m. p.is_value m.0 × q.is_value m.1;
@@ -68,7 +68,7 @@ with_part p q = record {
   numbers = p.numbers ++ q.numbers;
 }
 
--- the message of these parts: how a message falls into them, and is made of them
+-- the message of these parts: how a message is split into them, and how it is made of them
 abbrev pub message_of : {P M : Type 0} → Parts P → (M → P) → (P → M) → Part M
 message_of p parts make = record {
   is_value = λ m. p.is_value (parts m);

@@ -1,4 +1,4 @@
-//! Members of which at most one is set.
+//! A choice of members: at most one of them is set.
 ghost use Rattle.std.specs.Prelude.{◌≡◌, ◌≢◌, ℕ, ◌-◌, ◌≤◌, ◌^◌, ◌++◌, length, Option, IfOk, OnOk, IfErr, min};
 ghost use Rattle.ttrpc_wire.specs.Field.{fields_bytes};
 ghost use Rattle.ttrpc_wire.specs.Seen.{seen};
@@ -8,31 +8,32 @@ ghost use Rattle.ttrpc_members.specs.Schema.{Part};
 use std::alloc::{AllocError, Global};
 use ttrpc_wire::{CodecError, Field};
 
-/// The one that is set of several members, each of which has a number. The last one that was set wins.
+/// A choice of several members, each with a number: at most one of them is set. The last member that was set wins.
 pub trait Choice: Sized + Drop {
-    /// What one of them, or none, is written as and read from.
+    /// How the set member, or none, is written and read.
     ghost part: { Part (Option Self) };
 
-    /// Offers a field. After an error some member is set, or none.
+    /// Offers a field to the members. After an error some member is set, or none.
     fn put(choice: &mut Option<Self>, alloc: Global, field: Field<'_>) -> Result<(), CodecError>
         ensures { Gives (λ _. choice.new) result (part.step choice.old (seen field.entry)) };
 
-    /// How long the field of the one that is set is; at most the greatest `u64`.
+    /// Returns the length of the set member's field; at most the greatest `u64`.
     fn length(choice: &Option<Self>) -> u64
         ensures { result ≡ min (length (fields_bytes (part.fields choice.now))) (2 ^ 64 - 1) };
 
-    /// Writes the field of the one that is set. `TooLong` where it is 2^32 bytes or longer; after an error some of it may have
+    /// Writes the set member's field. The error is `TooLong` if the field is 2^32 bytes or longer. After an error a part of it may have
     /// been written.
     fn write(choice: &Option<Self>, out: &mut Vec<u8>) -> Result<(), CodecError>
-        ensures ok { OnOk result (out.new.items ≡ out.old.items ++ fields_bytes (part.fields choice.now)) }
-        ensures too_long { IfErr result (λ e. e ≢ CodecError.NoMemory
-            → (e ≡ CodecError.TooLong) × (2 ^ 32 ≤ length (fields_bytes (part.fields choice.now)))) };
+        ensures ok { OnOk result
+            (out.new.items ≡ out.old.items ++ fields_bytes (part.fields choice.now)) }
+        ensures too_long { IfErr result (λ e. e ≢ CodecError.NoMemory → (e ≡ CodecError.TooLong)
+            × (2 ^ 32 ≤ length (fields_bytes (part.fields choice.now)))) };
 
-    /// A copy.
+    /// Makes a copy.
     fn try_clone(choice: &Option<Self>) -> Result<Option<Self>, AllocError>
         ensures { IfOk result (λ copy. copy ≡ choice.now) };
 
-    /// A lemma, which does nothing when it runs: what is set is a value of its kind.
+    /// A lemma, which does nothing when it runs: the set member is a value of its kind.
     fn lemma_is_value(choice: &Option<Self>)
         ensures { part.is_value choice.now };
 }

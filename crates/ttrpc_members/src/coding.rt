@@ -1,21 +1,21 @@
-//! How the numbers of members are coded: the number that is written for one, and the one that a number stands for.
+//! The codings of members' numbers: the number that is written for a value, and the value that a number means.
 ghost use Rattle.std.specs.Prelude.{◌≡◌, ℕ, ◌*◌, ◌^◌};
 ghost use Rattle.ttrpc_members.specs.Items.{Coding, zigzag as zigzag_of, unzigzag as unzigzag_of};
 
 use ttrpc_wire::{int32_to_varint, int64_to_varint, varint_to_int32, varint_to_int64};
 
-/// A coding of 64 bits. The type that implements it stands for the coding; the numbers are values of `Value`.
+/// A coding of 64 bits. The type that implements it represents the coding; the numbers are values of `Value`.
 pub trait Coding64 {
     type Value: Copy + Drop;
 
-    /// What is written for a number, and what is read from that.
+    /// How a value is written and read.
     ghost coding: { Coding Self.Value };
 
-    /// The number that is written for one.
+    /// Returns the number that is written for a value.
     fn code(value: Self::Value) -> u64
         ensures { result ≡ coding.code value };
 
-    /// The one that a number stands for.
+    /// Returns the value that a number means.
     fn decode(n: u64) -> Self::Value
         ensures { result ≡ coding.decode n };
 
@@ -24,18 +24,18 @@ pub trait Coding64 {
         ensures { coding.is_value value.now };
 }
 
-/// A coding of 32 bits: likewise.
+/// A coding of 32 bits, otherwise like `Coding64`.
 pub trait Coding32 {
     type Value: Copy + Drop;
 
-    /// What is written for a number, and what is read from that.
+    /// How a value is written and read.
     ghost coding: { Coding Self.Value };
 
-    /// The number that is written for one.
+    /// Returns the number that is written for a value.
     fn code(value: Self::Value) -> u32
         ensures { result ≡ coding.code value };
 
-    /// The one that a number stands for.
+    /// Returns the value that a number means.
     fn decode(n: u32) -> Self::Value
         ensures { result ≡ coding.decode n };
 
@@ -251,7 +251,8 @@ impl Coding32 for Signed32 {
     }
 }
 
-/// The number that is written for a signed one: the even ones for those from 0 on, the odd ones for those below.
+/// Returns the number that is written for a signed value: an even number for a value from 0 on, and an odd number for a
+/// value below.
 fn zigzag(value: i64) -> u64
     ensures { result ≡ zigzag_of value }
 {
@@ -262,7 +263,7 @@ fn zigzag(value: i64) -> u64
     }
 }
 
-/// The signed number that one stands for.
+/// Returns the signed value that a number means.
 fn unzigzag(n: u64) -> i64
     ensures { result ≡ unzigzag_of n }
 {

@@ -1,4 +1,4 @@
-//! Messages that may contain themselves: one that is in another is kept as its bytes.
+//! Messages that may contain themselves: a message in another one is kept as its bytes.
 ghost use Rattle.std.specs.Prelude.{◌≡◌, ◌≢◌, ◌≤◌, ◌^◌, ◌⊎◌, [], length, List, ℕ, Some, None, IfOk, IfErr, OnErr};
 ghost use Rattle.ttrpc_wire.specs.Field.{fields_bytes};
 ghost use Rattle.ttrpc_wire.specs.Fold.{Gives, read_from};
@@ -11,8 +11,8 @@ use std::marker::{Model, PhantomData};
 use ttrpc_wire::codec::message::{WireMessage, decode, encode};
 use ttrpc_wire::{CodecError, Reader, TryClone, Value, WireType};
 
-/// A message that may contain the one that it is in, kept as its bytes, which contracts see as their list. They are fields of
-/// the message, and those in it, in at most 100 levels.
+/// A message that may contain the one that it is in, kept as its bytes. Contracts see it as the list of these bytes. They are fields of the
+/// message, and of the messages in it, in at most 100 levels.
 #[derive(Drop)]
 pub struct Enclosed<R: Recursive> {
     bytes: Vec<u8>,
@@ -30,21 +30,23 @@ impl<R: Recursive> Model for Enclosed<R> {
     ghost invariant = { λ enclosed. within R.rules R.message enclosed.bytes.items ≡ Some tt };
 }
 
-/// A message that may contain itself, with what stands for it where it is in another message.
+/// A message that may contain itself, with the rules for its bytes when it is in another message.
 pub trait Enclosable: WireMessage {
     ghost use Rattle.std.specs.Prelude.{◌≢◌, None};
 
     type Rules: Recursive;
 
-    /// Bytes that are taken as the message mean one.
-    ghost reads: { (bytes : List ℕ) → within Self.Rules.rules Self.Rules.message bytes ≡ Some tt → read_from Self.step Self.empty bytes ≢ None };
+    /// Bytes that are accepted as the message mean one.
+    ghost reads: { (bytes : List ℕ) → within Self.Rules.rules Self.Rules.message bytes ≡ Some tt
+        → read_from Self.step Self.empty bytes ≢ None };
 
-    /// Bytes that mean a message are taken in some number of levels.
-    ghost deep: { (bytes : List ℕ) → read_from Self.step Self.empty bytes ≢ None → (levels : ℕ) × (nested_upto Self.Rules.rules levels Self.Rules.message bytes ≡ Some tt) };
+    /// Bytes that mean a message are accepted in some number of levels.
+    ghost deep: { (bytes : List ℕ) → read_from Self.step Self.empty bytes ≢ None
+        → (levels : ℕ) × (nested_upto Self.Rules.rules levels Self.Rules.message bytes ≡ Some tt) };
 }
 
 impl<R: Recursive> Enclosed<R> {
-    /// The message of no fields. Takes no memory.
+    /// Makes the message without fields. Takes no memory.
     #[tactic(auto, using(crate::proofs::NestingLaws::nothing_within))]
     pub fn new(alloc: Global) -> Enclosed<R>
         ensures { result ≡ [] }
@@ -55,23 +57,26 @@ impl<R: Recursive> Enclosed<R> {
         }
     }
 
-    /// The message that the bytes are the fields of. `TooDeep` where messages in it nest in 100 levels or more; other errors but
-    /// that of refused memory come only where the bytes mean none, however deep they nest.
+    /// Makes the message that has these bytes as its fields. The error is `TooDeep` if messages in it nest in 100 levels or more. Any other
+    /// error, except that of refused memory, comes only if the bytes mean no message, however deep they nest.
     pub fn from_bytes(alloc: Global, bytes: &[u8]) -> Result<Enclosed<R>, CodecError>
-        ensures taken { Gives (λ enclosed. enclosed) result (with_more (within R.rules R.message) [] bytes.now) }
-        ensures told { IfErr result (λ e. e ≢ CodecError.NoMemory → TellsDepth e (λ k. nested_upto R.rules k R.message bytes.now)) }
+        ensures taken { Gives (λ enclosed. enclosed) result
+            (with_more (within R.rules R.message) [] bytes.now) }
+        ensures told { IfErr result (λ e. e ≢ CodecError.NoMemory
+            → TellsDepth e (λ k. nested_upto R.rules k R.message bytes.now)) }
     {
         let mut enclosed = Enclosed::new(alloc);
         enclosed.append(bytes)?;
         Ok(enclosed)
     }
 
-    /// Takes more fields in, as if they stood behind those of the message, with the errors of `from_bytes`. After an error nothing
-    /// has changed.
+    /// Adds more fields, as if they followed those of the message, with the errors of `from_bytes`. After an error nothing has changed.
     #[tactic(auto, using(crate::proofs::NestingLaws::more_within))]
     pub fn append(&mut self, bytes: &[u8]) -> Result<(), CodecError>
-        ensures taken { Gives (λ _. self.new) result (with_more (within R.rules R.message) self.old bytes.now) }
-        ensures told { IfErr result (λ e. e ≢ CodecError.NoMemory → TellsDepth e (λ k. nested_upto R.rules k R.message bytes.now)) }
+        ensures taken { Gives (λ _. self.new) result
+            (with_more (within R.rules R.message) self.old bytes.now) }
+        ensures told { IfErr result (λ e. e ≢ CodecError.NoMemory
+            → TellsDepth e (λ k. nested_upto R.rules k R.message bytes.now)) }
         ensures err { OnErr result (self.new ≡ self.old) }
     {
         check::<R>(bytes)?;
@@ -79,8 +84,8 @@ impl<R: Recursive> Enclosed<R> {
         Ok(())
     }
 
-    /// The written form of the message. `TooLong` where that is 2^32 bytes or longer, and `TooDeep` where messages in it nest in
-    /// 100 levels already. Only refused memory is another error.
+    /// Makes the written form of the message. The error is `TooLong` if that is 2^32 bytes or longer, and `TooDeep` if messages in it nest
+    /// in 100 levels already. The only other error is that of refused memory.
     pub fn from_message<M: Enclosable<Rules = R>>(
         alloc: Global,
         message: &M,
@@ -88,7 +93,8 @@ impl<R: Recursive> Enclosed<R> {
         ensures ok { IfOk result (λ enclosed. enclosed ≡ fields_bytes (M.fields message.now)) }
         ensures refused { IfErr result (λ e. e ≢ CodecError.NoMemory
             → ((e ≡ CodecError.TooLong) × (2 ^ 32 ≤ length (fields_bytes (M.fields message.now))))
-            ⊎ ((e ≡ CodecError.TooDeep) × (within R.rules R.message (fields_bytes (M.fields message.now)) ≡ None))) }
+            ⊎ ((e ≡ CodecError.TooDeep)
+            × (within R.rules R.message (fields_bytes (M.fields message.now)) ≡ None))) }
     {
         let bytes = encode(alloc, message)?;
         check::<R>(bytes.as_slice())?;
@@ -96,7 +102,7 @@ impl<R: Recursive> Enclosed<R> {
         Ok(Enclosed { bytes, of })
     }
 
-    /// The message that the bytes mean, of which those in it are kept as their bytes again. Only refused memory is an error.
+    /// Returns the message that the bytes mean. The messages in it are kept as their bytes again. Only refused memory is an error.
     pub fn message<M: Enclosable<Rules = R>>(&self, alloc: Global) -> Result<M, CodecError>
         ensures ok { IfOk result (λ m. read_from M.step M.empty self.now ≡ Some m) }
         ensures memory { IfErr result (λ e. e ≡ CodecError.NoMemory) }
@@ -105,8 +111,8 @@ impl<R: Recursive> Enclosed<R> {
         decode(alloc, self.as_bytes())
     }
 
-    /// Returns the message that the bytes mean, as `message` does, and lets the bytes go. A walk that takes each message out of the
-    /// one before holds no byte more than twice, however deep they nest.
+    /// Returns the message that the bytes mean, as `message` does, and releases the bytes. A walk that takes each message out of the one
+    /// before holds no byte more than twice, however deep the messages nest.
     pub fn into_message<M: Enclosable<Rules = R>>(self, alloc: Global) -> Result<M, CodecError>
         ensures ok { IfOk result (λ m. read_from M.step M.empty self ≡ Some m) }
         ensures memory { IfErr result (λ e. e ≡ CodecError.NoMemory) }
@@ -114,14 +120,14 @@ impl<R: Recursive> Enclosed<R> {
         self.message(alloc)
     }
 
-    /// Reads the fields where they lie: the bytes of a message in it are lent, and nothing is copied.
+    /// Returns a reader of the fields in place: the bytes of a message in it are lent, and nothing is copied.
     pub fn reader(&self) -> Reader<'_>
         ensures { result ≡ self.now }
     {
         Reader::new(self.as_bytes())
     }
 
-    /// The bytes.
+    /// Returns the bytes.
     pub fn as_bytes(&self) -> &[u8]
         ensures { result.now ≡ self.now }
     {
@@ -144,7 +150,7 @@ impl<R: Recursive> TryClone for Enclosed<R> {
     }
 }
 
-/// A message that may contain the one that it is in.
+/// The kind of a message that may contain the one that it is in.
 pub struct Enclosing<R> {
     of: PhantomData<R>,
 }

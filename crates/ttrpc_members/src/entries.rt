@@ -25,7 +25,7 @@ const KEY: FieldNumber = FieldNumber { value: 1 };
 
 const VALUE: FieldNumber = FieldNumber { value: 2 };
 
-/// Takes a field of an entry in. After an error key and value are some items.
+/// Reads a field of an entry. After an error the key and the value are some items.
 #[tactic(auto, unfolding(crate::specs::Kinds::single_take))]
 fn take_part<K: ItemKind, V: ItemKind>(
     key: &mut K::Item,
@@ -33,7 +33,8 @@ fn take_part<K: ItemKind, V: ItemKind>(
     alloc: Global,
     field: Field<'_>,
 ) -> Result<(), CodecError>
-    ensures { Gives (λ _. (key.new, value.new)) result ((entry K.form V.form).step (key.old, value.old) (seen field.entry)) }
+    ensures { Gives (λ _. (key.new, value.new)) result
+        ((entry K.form V.form).step (key.old, value.old) (seen field.entry)) }
 {
     match field.number.value {
         1 => {
@@ -47,12 +48,13 @@ fn take_part<K: ItemKind, V: ItemKind>(
     Ok(())
 }
 
-/// The entry that the bytes are.
+/// Reads the entry that the bytes are.
 fn read_entry<K: ItemKind, V: ItemKind>(
     alloc: Global,
     bytes: &[u8],
 ) -> Result<(K::Item, V::Item), CodecError>
-    ensures { Gives (λ e. e) result (read_from (entry K.form V.form).step (entry K.form V.form).empty bytes.now) }
+    ensures { Gives (λ e. e) result
+        (read_from (entry K.form V.form).step (entry K.form V.form).empty bytes.now) }
 {
     let mut key = K::first(alloc);
     let mut value = V::first(alloc);
@@ -64,17 +66,20 @@ fn read_entry<K: ItemKind, V: ItemKind>(
     Ok((key, value))
 }
 
-/// How long the fields of an entry are; at most the greatest `u64`.
+/// Returns the length of an entry's fields; at most the greatest `u64`.
 #[tactic(auto, using(crate::proofs::Groups::two_len))]
 fn parts_len<K: ItemKind, V: ItemKind>(key: &K::Item, value: &V::Item) -> u64
-    ensures { result ≡ min (length (fields_bytes ((entry K.form V.form).fields (key.now, value.now)))) (2 ^ 64 - 1) }
+    ensures { result ≡ min
+        (length (fields_bytes ((entry K.form V.form).fields (key.now, value.now)))) (2 ^ 64 - 1) }
 {
     item_len::<K>(key, KEY).saturating_add(item_len::<V>(value, VALUE))
 }
 
-/// How long the field of an entry is; at most the greatest `u64`.
+/// Returns the length of the field of an entry; at most the greatest `u64`.
 fn entry_len<K: ItemKind, V: ItemKind>(key: &K::Item, value: &V::Item, number: FieldNumber) -> u64
-    ensures { result ≡ min (length (field_bytes (record { number = number.value; value = (entry_item K.form V.form).value (key.now, value.now) }))) (2 ^ 64 - 1) }
+    ensures { result ≡ min (length (field_bytes
+        (record { number = number.value; value = (entry_item K.form V.form).value (key.now, value.now) })))
+        (2 ^ 64 - 1) }
 {
     part_len(number, parts_len::<K, V>(key, value))
 }
@@ -86,9 +91,11 @@ fn put_entry<K: ItemKind, V: ItemKind>(
     number: FieldNumber,
     out: &mut Vec<u8>,
 ) -> Result<(), CodecError>
-    ensures ok { OnOk result (out.new.items ≡ out.old.items ++ field_bytes (record { number = number.value; value = (entry_item K.form V.form).value (key.now, value.now) })) }
+    ensures ok { OnOk result (out.new.items ≡ out.old.items ++ field_bytes
+        (record { number = number.value; value = (entry_item K.form V.form).value (key.now, value.now) })) }
     ensures too_long { IfErr result (λ e. e ≢ CodecError.NoMemory
-        → (e ≡ CodecError.TooLong) × (2 ^ 32 ≤ length (field_bytes (record { number = number.value; value = (entry_item K.form V.form).value (key.now, value.now) })))) }
+        → (e ≡ CodecError.TooLong) × (2 ^ 32 ≤ length (field_bytes
+        (record { number = number.value; value = (entry_item K.form V.form).value (key.now, value.now) })))) }
 {
     let len = parts_len::<K, V>(key, value);
     if len > u32::MAX as u64 {
@@ -100,7 +107,8 @@ fn put_entry<K: ItemKind, V: ItemKind>(
 
 /// Writes a tag, and a length.
 fn put_head(number: FieldNumber, len: u64, out: &mut Vec<u8>) -> Result<(), AllocError>
-    ensures { OnOk result (out.new.items ≡ out.old.items ++ (tag_bytes number.value LengthDelimited ++ varint len)) }
+    ensures { OnOk result
+        (out.new.items ≡ out.old.items ++ (tag_bytes number.value LengthDelimited ++ varint len)) }
 {
     let wire_type = WireType::LengthDelimited;
     put_tag(out, Tag { number, wire_type })?;
@@ -114,16 +122,17 @@ fn put_parts<K: ItemKind, V: ItemKind>(
     value: &V::Item,
     out: &mut Vec<u8>,
 ) -> Result<(), CodecError>
-    ensures ok { OnOk result (out.new.items ≡ out.old.items ++ fields_bytes ((entry K.form V.form).fields (key.now, value.now))) }
-    ensures too_long { IfErr result (λ e. e ≢ CodecError.NoMemory
-        → (e ≡ CodecError.TooLong) × (2 ^ 32 ≤ length (fields_bytes ((entry K.form V.form).fields (key.now, value.now))))) }
+    ensures ok { OnOk result (out.new.items
+        ≡ out.old.items ++ fields_bytes ((entry K.form V.form).fields (key.now, value.now))) }
+    ensures too_long { IfErr result (λ e. e ≢ CodecError.NoMemory → (e ≡ CodecError.TooLong)
+        × (2 ^ 32 ≤ length (fields_bytes ((entry K.form V.form).fields (key.now, value.now))))) }
 {
     put_item::<K>(key, KEY, out)?;
     put_item::<V>(value, VALUE, out)?;
     Ok(())
 }
 
-/// A map: of two entries with one key the last one wins, and they are written by rising key.
+/// A map. The last of several entries with one key wins, and entries are written by rising key.
 pub struct MapOf<K, V> {
     of: PhantomData<(K, V)>,
 }
@@ -179,7 +188,7 @@ where
     }
 }
 
-/// How long the fields of the entries are; at most the greatest `u64`.
+/// Returns the length of the entries' fields; at most the greatest `u64`.
 #[tactic(auto, using(crate::proofs::MapLaws::first_measured, crate::proofs::MapLaws::none_written))]
 fn entries_len<K: ItemKind, V: ItemKind>(
     entries: &BTreeMap<K::Item, V::Item>,
@@ -187,7 +196,8 @@ fn entries_len<K: ItemKind, V: ItemKind>(
 ) -> u64
 where
     K::Item: Ord,
-    ensures { result ≡ min (length (fields_bytes (fields_at number.value (repeated_values (entry_item K.form V.form) entries.now.entries)))) (2 ^ 64 - 1) }
+    ensures { result ≡ min (length (fields_bytes (fields_at number.value
+        (repeated_values (entry_item K.form V.form) entries.now.entries)))) (2 ^ 64 - 1) }
 {
     let mut len: u64 = 0;
     for (key, value) in entries {
@@ -205,9 +215,11 @@ fn put_entries<K: ItemKind, V: ItemKind>(
 ) -> Result<(), CodecError>
 where
     K::Item: Ord,
-    ensures ok { OnOk result (out.new.items ≡ out.old.items ++ fields_bytes (fields_at number.value (repeated_values (entry_item K.form V.form) entries.now.entries))) }
+    ensures ok { OnOk result (out.new.items ≡ out.old.items ++ fields_bytes (fields_at number.value
+        (repeated_values (entry_item K.form V.form) entries.now.entries))) }
     ensures too_long { IfErr result (λ e. e ≢ CodecError.NoMemory
-        → (e ≡ CodecError.TooLong) × (2 ^ 32 ≤ length (fields_bytes (fields_at number.value (repeated_values (entry_item K.form V.form) entries.now.entries))))) }
+        → (e ≡ CodecError.TooLong) × (2 ^ 32 ≤ length (fields_bytes (fields_at number.value
+        (repeated_values (entry_item K.form V.form) entries.now.entries))))) }
 {
     for (key, value) in entries {
         put_entry::<K, V>(key, value, number, out)?;

@@ -13,42 +13,45 @@ use ttrpc_wire::codec::members::text_from;
 use ttrpc_wire::codec::message::{WireMessage, read_into};
 use ttrpc_wire::{Blob, CodecError, Text, TryClone, Value, WireType, put_varint, varint_len};
 
-/// A kind of item. The type that implements it stands for the kind; the items are values of `Item`.
+/// A kind of item. The type that implements it represents the kind; the items are values of `Item`.
 pub trait ItemKind {
     type Item: Drop;
 
-    /// What items are written as and read from.
+    /// How items are written and read.
     ghost form: { Item Self.Item };
 
-    /// The item that an absent field stands for. Takes no memory.
+    /// Returns the item that an absent field means. Takes no memory.
     fn first(alloc: Global) -> Self::Item
         ensures { result ≡ form.first };
 
-    /// Whether it is that.
+    /// Returns whether the item is the one that an absent field means.
     fn is_first(item: &Self::Item) -> bool
         ensures { result ≡ Self.form.is_first item.now };
 
-    /// Takes a field's value in, and says whether it had the item's wire type; otherwise nothing has changed. After an error
-    /// the item is some item.
+    /// Reads a field's value into the item, and returns whether the value had the item's wire type. If it hadn't, nothing has
+    /// changed. After an error the item is some item.
     fn read(item: &mut Self::Item, alloc: Global, value: Value<'_>) -> Result<bool, CodecError>
-        ensures taken { Gives (λ taken. if taken then Some item.new else None) result (Self.form.read item.old (seen_value value.entry)) }
+        ensures taken { Gives (λ taken. if taken then Some item.new else None) result
+            (Self.form.read item.old (seen_value value.entry)) }
         ensures kept { IfOk result (λ taken. taken ≡ false → item.new ≡ item.old) };
 
-    /// The wire type of what is written.
+    /// Returns the wire type of the values that are written.
     fn wire_type() -> WireType
         ensures { result ≡ form.wire_type };
 
-    /// How long its value is; at most the greatest `u64`.
+    /// Returns the length of the item's value; at most the greatest `u64`.
     fn value_len(item: &Self::Item) -> u64
         ensures { result ≡ min (length (value_bytes (Self.form.value item.now))) (2 ^ 64 - 1) };
 
-    /// Writes its value. `TooLong` where that is 2^32 bytes or longer; after an error some of it may have been written.
+    /// Writes the item's value. The error is `TooLong` if the value is 2^32 bytes or longer. After an error a part of it may have been
+    /// written.
     fn write_value(item: &Self::Item, out: &mut Vec<u8>) -> Result<(), CodecError>
-        ensures ok { OnOk result (out.new.items ≡ out.old.items ++ value_bytes (Self.form.value item.now)) }
-        ensures too_long { IfErr result (λ e. e ≢ CodecError.NoMemory
-            → (e ≡ CodecError.TooLong) × (2 ^ 32 ≤ length (value_bytes (Self.form.value item.now)))) };
+        ensures ok { OnOk result
+            (out.new.items ≡ out.old.items ++ value_bytes (Self.form.value item.now)) }
+        ensures too_long { IfErr result (λ e. e ≢ CodecError.NoMemory → (e ≡ CodecError.TooLong)
+            × (2 ^ 32 ≤ length (value_bytes (Self.form.value item.now)))) };
 
-    /// A copy.
+    /// Makes a copy.
     fn try_clone(item: &Self::Item) -> Result<Self::Item, AllocError>
         ensures { IfOk result (λ copy. copy ≡ item.now) };
 
@@ -56,11 +59,11 @@ pub trait ItemKind {
     fn lemma_is_value(item: &Self::Item)
         ensures { Self.form.is_value item.now };
 
-    /// What is written has that wire type.
+    /// A value that is written has the item's wire type.
     ghost typed: { (x : Self.Item) → wire_type_of (Self.form.value x) ≡ Self.form.wire_type };
 }
 
-/// How long a length and as many bytes are.
+/// Returns the length of a length and as many bytes.
 pub(crate) fn delimited_len(bytes: &[u8]) -> u64
     ensures { result ≡ min (length (value_bytes (LengthDelimited bytes.now))) (2 ^ 64 - 1) }
 {
@@ -69,7 +72,8 @@ pub(crate) fn delimited_len(bytes: &[u8]) -> u64
 
 /// Writes a length and as many bytes.
 pub(crate) fn put_delimited(out: &mut Vec<u8>, bytes: &[u8]) -> Result<(), AllocError>
-    ensures { OnOk result (out.new.items ≡ out.old.items ++ value_bytes (LengthDelimited bytes.now)) }
+    ensures { OnOk result
+        (out.new.items ≡ out.old.items ++ value_bytes (LengthDelimited bytes.now)) }
 {
     put_varint(out, bytes.len() as u64)?;
     out.extend_from_slice(bytes)

@@ -1,4 +1,4 @@
-//! Kinds of members: how many items one has, and which of them are written.
+//! Kinds of members: how many items a member has, and which of them are written.
 ghost use Rattle.std.specs.Prelude.{◌≡◌, ◌≢◌, ℕ, ◌+◌, ◌-◌, ◌*◌, ◌<◌, ◌≤◌, ◌^◌, ◌++◌, length, Option, Some, None, IfOk, OnOk, IfErr, min, true, false, if◌then◌else◌};
 ghost use Rattle.ttrpc_wire.specs.Field.{LengthDelimited, field_bytes, fields_bytes};
 ghost use Rattle.ttrpc_wire.specs.Seen.{seen_value};
@@ -16,36 +16,40 @@ use ttrpc_wire::{
     tag_len,
 };
 
-/// A kind of member. The type that implements it stands for the kind; the members are values of `Member`.
+/// A kind of member. The type that implements it represents the kind; the members are values of `Member`.
 pub trait MemberKind {
     type Member: Drop;
 
-    /// What a member is written as and read from.
+    /// How a member is written and read.
     ghost kind: { Kind Self.Member };
 
-    /// The member before any field. Takes no memory.
+    /// Returns the member before any field. Takes no memory.
     fn empty(alloc: Global) -> Self::Member
         ensures { result ≡ kind.empty };
 
-    /// Takes the value of one of the member's fields in. After an error the member is some member.
+    /// Reads the value of one of the member's fields. After an error the member is some member.
     fn take(member: &mut Self::Member, alloc: Global, value: Value<'_>) -> Result<(), CodecError>
         ensures { Gives (λ _. member.new) result (kind.take member.old (seen_value value.entry)) };
 
-    /// How long the member's fields are; at most the greatest `u64`.
+    /// Returns the length of the member's fields; at most the greatest `u64`.
     fn length(member: &Self::Member, number: FieldNumber) -> u64
-        ensures { result ≡ min (length (fields_bytes (fields_at number.value (kind.values member.now)))) (2 ^ 64 - 1) };
+        ensures { result
+            ≡ min (length (fields_bytes (fields_at number.value (kind.values member.now))))
+            (2 ^ 64 - 1) };
 
-    /// Writes the member's fields. `TooLong` where they are 2^32 bytes or longer; after an error some may have been written.
+    /// Writes the member's fields. The error is `TooLong` if they are 2^32 bytes or longer. After an error some of them may have been
+    /// written.
     fn write(
         member: &Self::Member,
         number: FieldNumber,
         out: &mut Vec<u8>,
     ) -> Result<(), CodecError>
-        ensures ok { OnOk result (out.new.items ≡ out.old.items ++ fields_bytes (fields_at number.value (kind.values member.now))) }
-        ensures too_long { IfErr result (λ e. e ≢ CodecError.NoMemory
-            → (e ≡ CodecError.TooLong) × (2 ^ 32 ≤ length (fields_bytes (fields_at number.value (kind.values member.now))))) };
+        ensures ok { OnOk result (out.new.items
+            ≡ out.old.items ++ fields_bytes (fields_at number.value (kind.values member.now))) }
+        ensures too_long { IfErr result (λ e. e ≢ CodecError.NoMemory → (e ≡ CodecError.TooLong)
+            × (2 ^ 32 ≤ length (fields_bytes (fields_at number.value (kind.values member.now))))) };
 
-    /// A copy.
+    /// Makes a copy.
     fn try_clone(member: &Self::Member) -> Result<Self::Member, AllocError>
         ensures { IfOk result (λ copy. copy ≡ member.now) };
 
@@ -54,9 +58,10 @@ pub trait MemberKind {
         ensures { kind.is_value member.now };
 }
 
-/// How long the field of an item is; at most the greatest `u64`.
+/// Returns the length of the field of an item; at most the greatest `u64`.
 pub fn item_len<I: ItemKind>(item: &I::Item, number: FieldNumber) -> u64
-    ensures { result ≡ min (length (field_bytes (record { number = number.value; value = I.form.value item.now }))) (2 ^ 64 - 1) }
+    ensures { result ≡ min (length (field_bytes
+        (record { number = number.value; value = I.form.value item.now }))) (2 ^ 64 - 1) }
 {
     let wire_type = I::wire_type();
     (tag_len(Tag { number, wire_type }) as u64).saturating_add(I::value_len(item))
@@ -68,16 +73,18 @@ pub fn put_item<I: ItemKind>(
     number: FieldNumber,
     out: &mut Vec<u8>,
 ) -> Result<(), CodecError>
-    ensures ok { OnOk result (out.new.items ≡ out.old.items ++ field_bytes (record { number = number.value; value = I.form.value item.now })) }
+    ensures ok { OnOk result (out.new.items ≡ out.old.items
+        ++ field_bytes (record { number = number.value; value = I.form.value item.now })) }
     ensures too_long { IfErr result (λ e. e ≢ CodecError.NoMemory
-        → (e ≡ CodecError.TooLong) × (2 ^ 32 ≤ length (field_bytes (record { number = number.value; value = I.form.value item.now })))) }
+        → (e ≡ CodecError.TooLong) × (2 ^ 32
+        ≤ length (field_bytes (record { number = number.value; value = I.form.value item.now })))) }
 {
     let wire_type = I::wire_type();
     put_tag(out, Tag { number, wire_type })?;
     I::write_value(item, out)
 }
 
-/// One item: the last one wins, and the first one is left out.
+/// One item. The last value wins, and the item that an absent field means is not written.
 pub struct Single<I> {
     of: PhantomData<I>,
 }
@@ -124,7 +131,7 @@ impl<I: ItemKind> MemberKind for Single<I> {
     }
 }
 
-/// One item that may be absent, and is written also where it is the first one.
+/// One item that may be absent. It is written even if it is the item that an absent field means.
 pub struct Optional<I> {
     of: PhantomData<I>,
 }
@@ -239,14 +246,15 @@ where
     }
 }
 
-/// Takes one more item in, where the value is one.
+/// Adds one more item, if the value is one.
 #[tactic(auto, unfolding(crate::specs::Kinds::repeated_take))]
 fn take_one<I: ItemKind>(
     member: &mut Sequence<I::Item>,
     alloc: Global,
     value: Value<'_>,
 ) -> Result<(), CodecError>
-    ensures { Gives (λ _. member.new) result (repeated_take I.form member.old (seen_value value.entry)) }
+    ensures { Gives (λ _. member.new) result
+        (repeated_take I.form member.old (seen_value value.entry)) }
 {
     let mut item = I::first(alloc);
     if I::read(&mut item, alloc, value)? {
@@ -255,10 +263,12 @@ fn take_one<I: ItemKind>(
     Ok(())
 }
 
-/// How long the fields of the items are; at most the greatest `u64`.
+/// Returns the length of the items' fields; at most the greatest `u64`.
 #[tactic(auto, using(crate::proofs::Lists::one_more_field), unfolding(crate::specs::Kinds::repeated_values))]
 fn items_len<I: ItemKind>(items: &[I::Item], number: FieldNumber) -> u64
-    ensures { result ≡ min (length (fields_bytes (fields_at number.value (repeated_values I.form items.now)))) (2 ^ 64 - 1) }
+    ensures { result
+        ≡ min (length (fields_bytes (fields_at number.value (repeated_values I.form items.now))))
+        (2 ^ 64 - 1) }
 {
     let mut len: u64 = 0;
     for item in items {
@@ -274,9 +284,11 @@ fn put_items<I: ItemKind>(
     number: FieldNumber,
     out: &mut Vec<u8>,
 ) -> Result<(), CodecError>
-    ensures ok { OnOk result (out.new.items ≡ out.old.items ++ fields_bytes (fields_at number.value (repeated_values I.form items.now))) }
+    ensures ok { OnOk result (out.new.items ≡ out.old.items
+        ++ fields_bytes (fields_at number.value (repeated_values I.form items.now))) }
     ensures too_long { IfErr result (λ e. e ≢ CodecError.NoMemory
-        → (e ≡ CodecError.TooLong) × (2 ^ 32 ≤ length (fields_bytes (fields_at number.value (repeated_values I.form items.now))))) }
+        → (e ≡ CodecError.TooLong) × (2 ^ 32
+        ≤ length (fields_bytes (fields_at number.value (repeated_values I.form items.now))))) }
 {
     for item in items {
         put_item::<I>(item, number, out)?;
@@ -293,7 +305,7 @@ fn lemma_are_values<I: ItemKind>(items: &[I::Item])
     }
 }
 
-/// Numbers of a list, in one value; where they come one by one they are read, too.
+/// Numbers of a list, in one value. Numbers that come one by one are read, too.
 pub struct Packed<I> {
     of: PhantomData<I>,
 }
@@ -353,14 +365,15 @@ where
     }
 }
 
-/// Takes one more number in, where the value is one.
+/// Adds one more number, if the value is one.
 #[tactic(auto, unfolding(crate::specs::Kinds::repeated_take))]
 fn take_number<I: ItemKind>(
     member: &mut Sequence<I::Item>,
     alloc: Global,
     value: Value<'_>,
 ) -> Result<(), CodecError>
-    ensures { Gives (λ _. member.new) result (repeated_take I.form member.old (seen_value value.entry)) }
+    ensures { Gives (λ _. member.new) result
+        (repeated_take I.form member.old (seen_value value.entry)) }
 {
     let mut item = I::first(alloc);
     if I::read(&mut item, alloc, value)? {
@@ -369,7 +382,7 @@ fn take_number<I: ItemKind>(
     Ok(())
 }
 
-/// Takes the numbers in that the bytes are, one behind the other.
+/// Adds the numbers that the bytes are, one after the other.
 fn take_packed<I: ItemKind>(
     member: &mut Sequence<I::Item>,
     alloc: Global,
@@ -385,7 +398,7 @@ fn take_packed<I: ItemKind>(
     Ok(())
 }
 
-/// How long the numbers are, one behind the other; at most the greatest `u64`.
+/// Returns the length of the numbers, one after the other; at most the greatest `u64`.
 #[tactic(auto, using(crate::proofs::PackedLaws::one_more_packed), unfolding(crate::specs::Kinds::packed_bytes))]
 fn packed_len<I: ItemKind>(items: &[I::Item]) -> u64
     ensures { result ≡ min (length (packed_bytes I.form items.now)) (2 ^ 64 - 1) }
@@ -403,7 +416,8 @@ fn put_packed<I: ItemKind>(
     number: FieldNumber,
     out: &mut Vec<u8>,
 ) -> Result<(), CodecError>
-    ensures ok { OnOk result (out.new.items ≡ out.old.items ++ field_bytes (record { number = number.value; value = LengthDelimited (packed_bytes I.form items.now) })) }
+    ensures ok { OnOk result (out.new.items ≡ out.old.items ++ field_bytes
+        (record { number = number.value; value = LengthDelimited (packed_bytes I.form items.now) })) }
     ensures too_long { IfErr result (λ e. e ≢ CodecError.NoMemory
         → (e ≡ CodecError.TooLong) × (2 ^ 32 ≤ length (packed_bytes I.form items.now))) }
 {
@@ -417,7 +431,7 @@ fn put_packed<I: ItemKind>(
     put_numbers::<I>(items, out)
 }
 
-/// Writes the numbers, one behind the other.
+/// Writes the numbers, one after the other.
 #[tactic(auto, using(crate::proofs::PackedLaws::one_more_packed, crate::proofs::PackedLaws::number_shorter), unfolding(crate::specs::Kinds::packed_bytes))]
 fn put_numbers<I: ItemKind>(items: &[I::Item], out: &mut Vec<u8>) -> Result<(), CodecError>
     ensures ok { OnOk result (out.new.items ≡ out.old.items ++ packed_bytes I.form items.now) }

@@ -27,7 +27,7 @@ impl<K: Ord, V> Model for Map<K, V> {
 }
 
 impl<K: Ord, V> Map<K, V> {
-    /// No entries. Takes no memory.
+    /// Makes a map without entries. Takes no memory.
     pub fn new(alloc: Global) -> Map<K, V>
         ensures { result ≡ [] }
     {
@@ -37,40 +37,40 @@ impl<K: Ord, V> Map<K, V> {
         }
     }
 
-    /// How many entries there are.
+    /// Returns how many entries there are.
     pub fn len(&self) -> usize
         ensures { result ≡ length self.now }
     {
         self.entries.len()
     }
 
-    /// Whether there are none.
+    /// Returns whether there are no entries.
     pub fn is_empty(&self) -> bool
         ensures { IsTrue result ↔ (self.now ≡ []) }
     {
         self.entries.is_empty()
     }
 
-    /// The allocator that its entries lie in.
+    /// Returns the allocator of the entries.
     pub fn allocator(&self) -> Global {
         self.alloc
     }
 
-    /// The entries.
+    /// Returns the entries.
     pub fn as_map(&self) -> &BTreeMap<K, V>
         ensures { result.now.entries ≡ self.now }
     {
         &self.entries
     }
 
-    /// Makes a map of std's entries. Takes no memory.
+    /// Makes a map of the entries of std's map. Takes no memory.
     pub fn from_map(alloc: Global, entries: BTreeMap<K, V>) -> Map<K, V>
         ensures { result ≡ entries.entries }
     {
         Map { entries, alloc }
     }
 
-    /// Gives the entries back as a map of std's. Takes no memory.
+    /// Returns the entries as a map of std. Takes no memory.
     pub fn into_map(self) -> BTreeMap<K, V>
         ensures { result.entries ≡ self }
     {
@@ -88,7 +88,7 @@ impl<K: Ord, V> Map<K, V> {
 }
 
 impl<K: Ord + Drop, V: Drop> Map<K, V> {
-    /// Puts a value under a key, in the place of an earlier one. After an error nothing has changed, and both are gone.
+    /// Puts a value under a key, in place of an earlier one. After an error nothing has changed, and both are dropped.
     pub fn insert(&mut self, key: K, value: V) -> Result<(), AllocError>
         ensures ok { OnOk result (self.new ≡ insert_entry K.cmp self.old key value) }
         ensures err { OnErr result (self.new ≡ self.old) }
@@ -97,7 +97,7 @@ impl<K: Ord + Drop, V: Drop> Map<K, V> {
         Ok(())
     }
 
-    /// Takes the entry of a key out, if there is one, and returns its value. Takes no memory.
+    /// Removes the entry of a key, if there is one, and returns its value. Takes no memory.
     pub fn remove(&mut self, key: &K) -> Option<V>
         ensures value { result ≡ lookup (is_at (K.cmp key.now)) self.old }
         ensures others { self.new ≡ remove_entry (is_at (K.cmp key.now)) self.old }
@@ -105,7 +105,7 @@ impl<K: Ord + Drop, V: Drop> Map<K, V> {
         self.entries.remove(key)
     }
 
-    /// Takes all entries out.
+    /// Removes all entries.
     pub fn clear(&mut self)
         ensures { self.new ≡ [] }
     {

@@ -1,4 +1,4 @@
-//! What the bytes of a message that may contain itself have to be, and how deep they may nest.
+//! The rules for the bytes of a message that may contain itself, and the limit of its nesting.
 ghost use Rattle.std.specs.Prelude.{◌≡◌, ◌-◌, ℕ, List, Option, IfErr};
 ghost use Rattle.ttrpc_wire.specs.Seen.{seen};
 ghost use Rattle.ttrpc_wire.specs.Fold.{Gives};
@@ -7,18 +7,18 @@ ghost use Rattle.ttrpc_members.specs.Nesting.{TellsDepth, content_in, content_fr
 
 use ttrpc_wire::{CodecError, Field, Reader, Value, WireType};
 
-/// What a length-delimited value of a member has to be.
+/// The content that is required of a member's length-delimited value.
 #[derive(Clone, Copy)]
 pub enum Content {
     /// A text.
     Text,
-    /// Numbers of this wire type, one behind the other.
+    /// Numbers of this wire type, one after the other.
     Numbers(WireType),
-    /// The message whose first rule has this place among all rules.
+    /// The message with its first rule at this place among all rules.
     Message(u32),
 }
 
-/// What the values of one member have to be: the place of its message's first rule among all rules, its number, and that.
+/// The rule for the values of one member: the place of its message's first rule among all rules, its number, and the required content.
 #[derive(Clone, Copy)]
 pub struct Rule {
     pub message: u32,
@@ -26,43 +26,45 @@ pub struct Rule {
     pub content: Content,
 }
 
-/// A message that may contain the one that it is in: the rules of it and of all that may be in it.
+/// A message that may contain the one that it is in: the rules for it and for all messages that may be in it.
 pub trait Recursive {
     ghost use Rattle.ttrpc_members.specs.declared.nesting.Rule.{Rule};
 
     /// The rules.
     ghost rules: { List Rule };
 
-    /// The place of its first rule among all rules, which are in the order of their messages.
+    /// The place of the message's first rule among all rules, which are in the order of their messages.
     ghost message: { ℕ };
 
-    /// The rules.
+    /// Returns the rules.
     fn rules() -> &'static [Rule]
         ensures { result.now ≡ rules };
 
-    /// The place of its first rule among all rules.
+    /// Returns the place of the message's first rule among all rules.
     fn message() -> u32
         ensures { result ≡ message };
 }
 
-/// How many levels of messages may be in a message.
+/// The most levels of messages in a message.
 const LEVELS: u32 = 100;
 
-/// Whether the bytes are fields of the message, and those in it, in at most 100 levels. An error other than `TooDeep` comes only
-/// where they are not, in whatever number of levels. Takes no memory.
+/// Checks that the bytes are fields of the message, and of the messages in it, in at most 100 levels. An error other than `TooDeep` comes
+/// only if they are not, in whatever number of levels. Takes no memory.
 #[tactic(auto, unfolding(crate::specs::Nesting::within))]
 pub fn check<R: Recursive>(bytes: &[u8]) -> Result<(), CodecError>
     ensures taken { Gives (λ _. tt) result (within R.rules R.message bytes.now) }
-    ensures told { IfErr result (λ e. TellsDepth e (λ k. nested_upto R.rules k R.message bytes.now)) }
+    ensures told { IfErr result
+        (λ e. TellsDepth e (λ k. nested_upto R.rules k R.message bytes.now)) }
 {
     check_message(R::rules(), R::message(), bytes, LEVELS)
 }
 
-/// Whether the bytes are fields of the message, in at most so many levels.
+/// Checks that the bytes are fields of the message, in at most `levels` levels.
 #[cycle(check)]
 fn check_message(rules: &[Rule], message: u32, bytes: &[u8], levels: u32) -> Result<(), CodecError>
     ensures taken { Gives (λ _. tt) result (nested_upto rules.now levels message bytes.now) }
-    ensures told { IfErr result (λ e. TellsDepth e (λ k. nested_upto rules.now k message bytes.now)) }
+    ensures told { IfErr result
+        (λ e. TellsDepth e (λ k. nested_upto rules.now k message bytes.now)) }
 {
     if levels == 0 {
         return Err(CodecError::TooDeep);
@@ -75,7 +77,7 @@ fn check_message(rules: &[Rule], message: u32, bytes: &[u8], levels: u32) -> Res
     Ok(())
 }
 
-/// Whether a field is what the rules want of it, and those in it, in at most so many levels.
+/// Checks that a field, and the fields in it, are as the rules require, in at most `levels` levels.
 #[cycle(check)]
 fn check_field(
     rules: &[Rule],
@@ -83,8 +85,10 @@ fn check_field(
     field: Field<'_>,
     levels: u32,
 ) -> Result<(), CodecError>
-    ensures taken { Gives (λ _. tt) result (field_in rules.now (λ m b. nested_upto rules.now levels m b) message tt (seen field.entry)) }
-    ensures told { IfErr result (λ e. TellsDepth e (λ k. field_in rules.now (λ m b. nested_upto rules.now k m b) message tt (seen field.entry))) }
+    ensures taken { Gives (λ _. tt) result (field_in rules.now
+        (λ m b. nested_upto rules.now levels m b) message tt (seen field.entry)) }
+    ensures told { IfErr result (λ e. TellsDepth e (λ k. field_in rules.now
+        (λ m b. nested_upto rules.now k m b) message tt (seen field.entry))) }
 {
     let Value::LengthDelimited(bytes) = field.value else {
         return Ok(());
@@ -97,7 +101,7 @@ fn check_field(
     }
 }
 
-/// Returns what the rules want of a member. The rules of its message stand together, from its place on.
+/// Returns the content that the rules require of a member. The rules of its message lie together, from its place on.
 fn content_of(rules: &[Rule], message: u32, number: u32) -> Option<Content>
     ensures { result ≡ content_by rules.now message number }
 {
@@ -107,7 +111,7 @@ fn content_of(rules: &[Rule], message: u32, number: u32) -> Option<Content>
     content_from(&rules[message as usize..], message, number)
 }
 
-/// Returns what the first of these rules want of a member of their message, up to the first rule of another message.
+/// Returns the content that the first of these rules require of a member of their message, up to the first rule of another message.
 fn content_from(rules: &[Rule], message: u32, number: u32) -> Option<Content>
     ensures { result ≡ content_of_first rules.now message number }
 {
@@ -133,7 +137,7 @@ fn check_text(bytes: &[u8]) -> Result<(), CodecError>
     }
 }
 
-/// Whether the bytes are numbers of this wire type.
+/// Checks that the bytes are numbers of this wire type.
 fn check_numbers(wire_type: WireType, bytes: &[u8]) -> Result<(), CodecError>
     ensures { Reads (λ _. tt) result (numbers_in wire_type bytes.now) }
 {

@@ -11,24 +11,24 @@ use Rattle.ttrpc_proto.specs.declared.messages.KeyValue.{KeyValue}
 abbrev pub Metadata : Type 0
 Metadata = List (List ℕ × List (List ℕ))
 
--- what a context carries
+-- the content of a context
 pub record Carried : Type 0 where
   pub metadata : Metadata
   pub timeout_nano : ℤ
 
--- the texts of a key, where there are any
+-- the texts of a key, if there are any
 abbrev pub texts_of : Metadata → List ℕ → Option (List (List ℕ))
 texts_of m key = lookup (bytes_eq key) m
 
--- a key has these texts, or none, and every other key those that it had
+-- one key has these texts, or none, and every other key has the same texts as before
 abbrev pub Sets : Metadata → List ℕ → Option (List (List ℕ)) → Metadata → Type 0
 Sets old key texts new = (k : List ℕ) → texts_of new k ≡ (if bytes_eq k key then texts else texts_of old k)
 
--- a key has one more text, behind those that it had
+-- one key has one more text, after the texts that it had
 abbrev pub Adds : Metadata → List ℕ → List ℕ → Metadata → Type 0
 Adds old key text new = Sets old key (Some (unwrap_or (texts_of old key) [] ++ text ∷ [])) new
 
--- a list of no texts is none
+-- an empty list of texts counts as none
 abbrev pub some_texts : List (List ℕ) → Option (List (List ℕ))
 some_texts [] = None
 some_texts (t ∷ ts) = Some (t ∷ ts)
@@ -37,7 +37,7 @@ some_texts (t ∷ ts) = Some (t ∷ ts)
 abbrev pub lower : List ℕ → List ℕ
 lower key = map to_ascii_lowercase key
 
--- ---- what a map of the code is
+-- ---- the content of a map of the code
 
 -- the texts of a vector, as bytes
 abbrev pub texts : {Y : Type 0} → Vec (String Y) Y → List (List ℕ)

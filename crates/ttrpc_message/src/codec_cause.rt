@@ -1,4 +1,4 @@
-//! The error that is made of a codec's.
+//! The error that is made of a codec's error.
 ghost use Rattle.std.specs.Prelude.{◌≡◌, ◌≢◌, None};
 ghost use Rattle.ttrpc_proto.specs.ErrorText.{IsOthers};
 
@@ -8,8 +8,8 @@ use ttrpc_proto::Error;
 use ttrpc_proto::error::causes::others_of;
 use ttrpc_wire::values::codec_error::CodecFailure;
 
-/// The error for a codec's error: `NoMemory` where memory was refused, also for the text, and else `Others` of a prefix and
-/// what the error prints.
+/// Converts a codec's error: to `NoMemory` if memory was refused, also for the text, and else to `Others` with a prefix and the text that
+/// the codec's error prints.
 pub fn codec_error_of<E: CodecFailure + Display + Drop>(
     alloc: Global,
     prefix: &str,

@@ -14,18 +14,19 @@ use ttrpc_proto::framing::writing::write_frame;
 use ttrpc_proto::{Error, Incoming, MessageHeader, Result, Sink, Source, sock_error_msg};
 use ttrpc_wire::Text;
 
-/// Reads the header and the payload of the next frame, and nothing that follows it. In place of a payload that is too
-/// long stands the error that its sender is to be told. After an `Err` the connection can't go on.
+/// Reads the header and the payload of the next frame, and nothing that follows it. If the payload is too long, returns
+/// in its place the error to report to its sender. After an `Err` the connection can't go on.
 pub fn read_message<R: Source>(
     alloc: Global,
     reader: &mut R,
 ) -> Result<(MessageHeader, Result<Vec<u8>>)>
-    ensures { Reads (R.remaining reader.old) (R.remaining reader.new) (R.last reader.new) (ArePartsOf result) }
+    ensures { Reads (R.remaining reader.old) (R.remaining reader.new) (R.last reader.new)
+        (ArePartsOf result) }
 {
     parts_of(alloc, take_frame(alloc, reader))
 }
 
-/// What is told of what was found, as a header and its bytes.
+/// Converts the result of reading a frame to a header and its bytes.
 pub fn parts_of(
     alloc: Global,
     took: std::result::Result<Found, StreamFailure>,
@@ -46,7 +47,7 @@ pub fn parts_of(
     }
 }
 
-// The error for a header of which no more than so many bytes came.
+// Makes the error for a header that was cut after `count` bytes.
 fn header_cut(alloc: Global, count: usize) -> Error
     ensures { IsErrorOf (cut_error count (header_cut_text count)) result }
 {
@@ -56,7 +57,7 @@ fn header_cut(alloc: Global, count: usize) -> Error
     }
 }
 
-// The error for a body of which no more than so many bytes came.
+// Makes the error for a body that was cut after `count` bytes.
 fn body_cut(alloc: Global, count: usize, stated: u32) -> Error
     ensures { IsErrorOf (cut_error count (body_cut_text count stated)) result }
 {
@@ -66,8 +67,8 @@ fn body_cut(alloc: Global, count: usize, stated: u32) -> Error
     }
 }
 
-/// Writes the header as it stands, and the payload. `prefix` is room for the first offer, which has both. It doesn't
-/// flush.
+/// Writes the header as it is, and the payload. `prefix` is room for the first offer, which has both. Doesn't flush the
+/// writer.
 pub fn write_message<W: Sink>(
     alloc: Global,
     writer: &mut W,
@@ -75,9 +76,12 @@ pub fn write_message<W: Sink>(
     payload: &[u8],
     prefix: &mut Vec<u8>,
 ) -> Result<()>
-    ensures ok { OnOk result (Appends (W.contents writer.old) (W.contents writer.new) (header_bytes header ++ payload.now)) }
-    ensures err { OnErr result (AppendsFront (W.contents writer.old) (W.contents writer.new) (header_bytes header ++ payload.now)) }
-    ensures calls { Sends (W.calls writer.old) (W.calls writer.new) (WritesFrame header payload.now) (IsSentMessage result) }
+    ensures ok { OnOk result (Appends (W.contents writer.old) (W.contents writer.new)
+        (header_bytes header ++ payload.now)) }
+    ensures err { OnErr result (AppendsFront (W.contents writer.old) (W.contents writer.new)
+        (header_bytes header ++ payload.now)) }
+    ensures calls { Sends (W.calls writer.old) (W.calls writer.new) (WritesFrame header payload.now)
+        (IsSentMessage result) }
 {
     match write_frame(writer, &header, payload, prefix) {
         Ok(()) => Ok(()),
@@ -85,7 +89,7 @@ pub fn write_message<W: Sink>(
     }
 }
 
-/// The error that tells why a message wasn't written.
+/// Converts the failure to write a message to an error.
 pub fn write_error(alloc: Global, failure: StreamFailure) -> Error
     ensures told { TellsFailure failure result }
     ensures zero { TellsZero failure result }
@@ -96,7 +100,7 @@ pub fn write_error(alloc: Global, failure: StreamFailure) -> Error
     }
 }
 
-// The error for a writer that took nothing.
+// Makes the error for a writer that took nothing.
 fn write_zero(alloc: Global) -> Error
     ensures { IsErrorOf (Error.Socket (codes "failed to write ttrpc frame: write zero")) result }
 {

@@ -1,5 +1,6 @@
-//! Messages from a reader and to a writer: as bytes, and as the value that a codec makes of them. In `context` what
-//! goes with a request, in `calls` what the macros of services and of their clients call.
+//! Messages from a reader and to a writer: as bytes, and as values by a codec. The module `context` has the metadata
+//! and the time limit of a request. The module `calls` has the functions that the macros of services and of their
+//! clients call.
 #![tactic(auto)]
 
 pub mod calls;

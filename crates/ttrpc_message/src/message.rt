@@ -40,8 +40,7 @@ impl<C: Codec> Message<C>
 where
     C::E: Display + Drop,
 {
-    /// A request under this id, with the payload's length in its header. Refuses a payload that is longer than a message
-    /// may be.
+    /// Makes a request under this id, with the payload's length in its header. Refuses a payload that is longer than a message may be.
     pub fn new_request(alloc: Global, stream_id: u32, payload: C) -> Result<Message<C>>
         ensures ok { IsOk result ↔ (length (C.written payload) ≤ MESSAGE_LENGTH_MAX) }
         ensures header { IfOk result (λ m. m.header ≡ record {
@@ -51,7 +50,8 @@ where
           flags = 0;
         }) }
         ensures payload { IfOk result (λ m. m.payload ≡ payload) }
-        ensures err { IfErr result (IsErrorOf (oversize_error false (min (length (C.written payload)) (2 ^ 32 - 1)))) }
+        ensures err { IfErr result
+            (IsErrorOf (oversize_error false (min (length (C.written payload)) (2 ^ 32 - 1)))) }
     {
         let size = payload.size();
         match check_oversize(alloc, size as usize, false) {
@@ -63,22 +63,26 @@ where
         }
     }
 
-    /// Reads the message of the next frame, and nothing that follows it. One that is too long is thrown away, and what
-    /// its header stands with is what no bytes mean.
+    /// Reads the message of the next frame, and nothing that follows it. If the message is too long, its bytes are thrown away, and its
+    /// header is returned with the value that an empty payload means.
     pub fn read_from<R: Source>(alloc: Global, reader: &mut R) -> Result<Message<C>>
-        ensures { Reads (R.remaining reader.old) (R.remaining reader.new) (R.last reader.new) (IsValueOf C.meaning C.E.is_no_memory C.E.output result) }
+        ensures { Reads (R.remaining reader.old) (R.remaining reader.new) (R.last reader.new)
+            (IsValueOf C.meaning C.E.is_no_memory C.E.output result) }
     {
         value_of(alloc, take_frame(alloc, reader))
     }
 
-    /// Writes the message as a frame under its header as it stands, and flushes once.
+    /// Writes the message as a frame under its header as it is, and flushes once.
     pub fn write_to<W: Sink>(&self, alloc: Global, writer: &mut W) -> Result<()>
         ensures ok { OnOk result (Appends (W.contents writer.old) (W.contents writer.new)
             (header_bytes self.now.header ++ C.written self.now.payload)) }
         ensures err { OnErr result (AppendsFront (W.contents writer.old) (W.contents writer.new)
             (header_bytes self.now.header ++ C.written self.now.payload)) }
-        ensures calls { (Makes (W.calls writer.old) (W.calls writer.new) (λ calls. calls ≡ []) × Fails result (IsUnwritten C.E.is_no_memory C.E.output (C.written self.now.payload)))
-            ⊎ Sends (W.calls writer.old) (W.calls writer.new) (Then (WritesFrame self.now.header (C.written self.now.payload)) Flushes) (IsSent result) }
+        ensures calls { (Makes (W.calls writer.old) (W.calls writer.new) (λ calls. calls ≡ [])
+            × Fails result (IsUnwritten C.E.is_no_memory C.E.output (C.written self.now.payload)))
+            ⊎ Sends (W.calls writer.old) (W.calls writer.new)
+            (Then (WritesFrame self.now.header (C.written self.now.payload)) Flushes)
+            (IsSent result) }
     {
         let content = match encoded(alloc, &self.payload) {
             Ok(content) => content,
@@ -91,18 +95,21 @@ where
         }
     }
 
-    /// The message whose payload these bytes mean.
+    /// Decodes the payload of a message.
     pub fn from_gen(alloc: Global, message: GenMessage) -> Result<Message<C>>
-        ensures { Decodes C.meaning C.E.is_no_memory C.E.output result message.header message.payload }
+        ensures { Decodes C.meaning C.E.is_no_memory C.E.output result
+            message.header message.payload }
     {
         decoded(alloc, message.header, message.payload.as_slice())
     }
 
-    /// The message with its payload's written form.
+    /// Encodes the payload of the message.
     pub fn into_gen(self, alloc: Global) -> Result<GenMessage>
-        ensures ok { IfOk result (λ m. (m.header ≡ self.header) × (m.payload ≡ C.written self.payload)) }
+        ensures ok { IfOk result
+            (λ m. (m.header ≡ self.header) × (m.payload ≡ C.written self.payload)) }
         ensures again { IfOk result (λ m. C.meaning m.payload ≡ Some self.payload) }
-        ensures err { IfErr result (IsUnwritten C.E.is_no_memory C.E.output (C.written self.payload)) }
+        ensures err { IfErr result
+            (IsUnwritten C.E.is_no_memory C.E.output (C.written self.payload)) }
     {
         let Message { header, payload } = self;
         match encoded(alloc, &payload) {
@@ -115,7 +122,7 @@ where
     }
 }
 
-/// What is told of what was found, as a value.
+/// Converts the result of reading a frame to a value.
 pub fn value_of<C: Codec>(
     alloc: Global,
     took: std::result::Result<Found, StreamFailure>,
@@ -145,7 +152,7 @@ where
     }
 }
 
-/// The written form of a value, or why it has none.
+/// Encodes a value, or returns the reason why it can't be encoded.
 pub fn encoded<C: Codec>(alloc: Global, payload: &C) -> Result<Vec<u8>>
 where
     C::E: Display + Drop,

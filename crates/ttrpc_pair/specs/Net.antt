@@ -14,12 +14,12 @@ use Rattle.ttrpc_client.specs.declared.kind.ClientKind.{ClientKind}
 use Rattle.ttrpc_client.specs.Protocol as client
 use Rattle.ttrpc_pair.specs.Pipes.{Pipe, empty_pipe}
 
--- what the clauses know of the two halves of a side
+-- the ghost functions of a side's outbound and inbound half, by which clauses speak of them
 pub record Halves (O I : Type 0) : Type 1 where
   pub out : OutboundTransform O
   pub in_ : InboundTransform I
 
--- these two halves, as the clauses know them
+-- Returns the ghost functions of these two halves in one record.
 abbrev pub halves : {O I : Type 0} → OutboundTransform O → InboundTransform I → Halves O I
 halves out in_ = record { out = out; in_ = in_ }
 
@@ -31,24 +31,24 @@ pub record Net (CO CI SO SI : Type 0) : Type 0 where
   pub up : Pipe
   -- the bytes in flight to the client
   pub down : Pipe
-  -- the last moment that came, in nanoseconds
+  -- the moment of the last tick, in nanoseconds, or 0 if there was none
   pub moment : ℕ
-  -- the jobs that go on behind their response, or went on
+  -- the ids of the jobs for which a response was queued by `Respond`; such a job goes on after its response
   pub responded : List ℕ
 
--- all as it is, but with this client
+-- Returns the same pair with this client.
 abbrev pub with_client : {CO CI SO SI : Type 0} → Net CO CI SO SI → ClientCore CO CI → Net CO CI SO SI
 with_client w c = record w { client = c }
 
--- all as it is, but with this server
+-- Returns the same pair with this server.
 abbrev pub with_server : {CO CI SO SI : Type 0} → Net CO CI SO SI → ServerCore SO SI → Net CO CI SO SI
 with_server w s = record w { server = s }
 
--- whether a job has its response already
+-- Returns true if a response was queued for this job by `Respond`.
 abbrev pub has_response : {CO CI SO SI : Type 0} → Net CO CI SO SI → ℕ → Bool
 has_response w job = list_any (λ j. nat_eq j job) w.responded
 
--- Nothing has happened yet, and each outbound half is paired with the other side's inbound half.
+-- Holds if nothing has happened yet, and each outbound half is paired with the other side's inbound half.
 pub record IsFresh {CO CI SO SI : Type 0} (c : Halves CO CI) (s : Halves SO SI) (w : Net CO CI SO SI) : Type 0 where
   pub kind : ClientKind
   pub first : ℕ

@@ -1,4 +1,4 @@
--- The types of the code that these definitions speak of, in one list.
+-- The types of the code that these definitions use, in one list.
 -- Source: this project's.
 pub use Rattle.ttrpc_proto.specs.declared.messages.Response.{Response}
 pub use Rattle.ttrpc_connection.specs.Types.{Error}

@@ -1,4 +1,4 @@
-//! One client and one server over two byte pipes, and what each event does to them.
+//! One client and one server over two byte pipes, and the effect of each event on them.
 #![tactic(auto)]
 
 mod pair;

@@ -1,4 +1,4 @@
-//! A client, a server and two pipes, and what happens to them at an event.
+//! A client, a server and two pipes, and the effect of each event on them.
 ghost use Rattle.std.specs.Prelude.{◌≡◌, ◌<◌, [], length, true, false, ◌⊎◌, IfOk, OnErr, IfSome, IfNone, None, Ok, Some};
 ghost use Rattle.ttrpc_proto.specs.declared.messages.Response.{Response as AResponse};
 ghost use Rattle.ttrpc_proto.specs.Messages.{IsResponse};
@@ -24,7 +24,7 @@ use ttrpc_wire::values::slices::front;
 use ttrpc_wire::{Blob, Text};
 use ttrpc_world_trace::{Event, Reply, Side, StreamEnd};
 
-/// A client and a server, each over its two halves, and the bytes in flight between them.
+/// A client and a server, each over its outbound and inbound half, and the bytes in flight between them.
 #[derive(Drop)]
 pub struct Pair<CO, CI, SO, SI> {
     client: ClientCore<CO, CI>,
@@ -56,7 +56,7 @@ impl<
     SO: OutboundTransform + Drop,
     SI: InboundTransform + Drop,
 > Pair<CO, CI, SO, SI> {
-    /// A pair of these two cores, with nothing in flight, at moment 0. Takes no memory.
+    /// Returns a pair of these two cores, with nothing in flight, at moment 0. Takes no memory.
     pub fn new(alloc: Global, client: ClientCore<CO, CI>, server: ServerCore<SO, SI>) -> Self
         ensures { result ≡ record {
           client = client;
@@ -77,7 +77,7 @@ impl<
         }
     }
 
-    /// One event happens, and this is replied to it.
+    /// Lets one event happen, and returns its reply.
     pub fn step(&mut self, alloc: Global, event: &Event) -> Reply
         ensures { Steps
             (halves CO.OutboundTransform CI.InboundTransform)
@@ -236,7 +236,7 @@ impl<
         }
     }
 
-    /// The same of a server that lives.
+    /// Answers a job of a server that hasn't failed. Returns `NoStep` if the job may not be answered.
     fn answer_living(&mut self, alloc: Global, id: JobId, given: &Result<Response, Error>) -> Reply
         requires { self.old.server.connection.failure ≡ None }
         ensures { Steps
@@ -269,7 +269,7 @@ impl<
         }
     }
 
-    /// The same of a server that lives and has sync rules.
+    /// Responds to a job of a server that hasn't failed and has sync rules. The job goes on.
     fn respond_by_rules(&mut self, alloc: Global, id: JobId, response: &Response) -> Reply
         requires { LivesBy
             (halves CO.OutboundTransform CI.InboundTransform)
@@ -311,7 +311,7 @@ impl<
         }
     }
 
-    /// The same of a server that lives and has sync rules.
+    /// Finishes a job of a server that hasn't failed and has sync rules.
     fn finish_by_rules(&mut self, alloc: Global, id: JobId) -> Reply
         requires { LivesBy
             (halves CO.OutboundTransform CI.InboundTransform)
@@ -407,7 +407,7 @@ impl<
         }
     }
 
-    /// The same of a server that lives and has async rules.
+    /// Ends a stream's job of a server that hasn't failed and has async rules.
     fn end_by_rules(
         &mut self,
         alloc: Global,
@@ -433,11 +433,14 @@ impl<
         }
     }
 
-    /// The stream's id of a job that may be answered: it was taken, isn't over, and has no response yet.
+    /// Returns the stream id of a job that may be answered. Returns `None` if the job wasn't taken, is over, or has a
+    /// response already.
     fn awaiting(&self, id: JobId) -> Option<u32>
         ensures some { IfSome result (λ k. (job : AJob)
-            × IsTaken self.now.server.state.jobs.list id job × (k ≡ job.header.stream_id) × (has_response self.now id ≡ false)) }
-        ensures none { IfNone result (IsUnknown self.now.server.state.jobs.list id ⊎ (has_response self.now id ≡ true)) }
+            × IsTaken self.now.server.state.jobs.list id job × (k ≡ job.header.stream_id)
+            × (has_response self.now id ≡ false)) }
+        ensures none { IfNone result
+            (IsUnknown self.now.server.state.jobs.list id ⊎ (has_response self.now id ≡ true)) }
     {
         if self.responded.as_slice().contains(&id) {
             return None;
@@ -559,20 +562,24 @@ impl<
         Reply::Done
     }
 
-    /// The server's input ends, where its pipe is over.
+    /// Ends the server's input if the pipe to the server is over.
     fn end_up(&mut self)
-        ensures hears { Hears (is_over self.old.up) self.old.server.connection self.new.server.connection }
-        ensures only { self.new ≡ with_server self.old (record self.old.server { connection = self.new.server.connection }) }
+        ensures hears { Hears (is_over self.old.up)
+            self.old.server.connection self.new.server.connection }
+        ensures only { self.new ≡ with_server self.old
+            (record self.old.server { connection = self.new.server.connection }) }
     {
         if self.up.is_over() {
             self.server.end_of_input();
         }
     }
 
-    /// The client's input ends, where its pipe is over.
+    /// Ends the client's input if the pipe to the client is over.
     fn end_down(&mut self)
-        ensures hears { Hears (is_over self.old.down) self.old.client.connection self.new.client.connection }
-        ensures only { self.new ≡ with_client self.old (record self.old.client { connection = self.new.client.connection }) }
+        ensures hears { Hears (is_over self.old.down)
+            self.old.client.connection self.new.client.connection }
+        ensures only { self.new ≡ with_client self.old
+            (record self.old.client { connection = self.new.client.connection }) }
     {
         if self.down.is_over() {
             self.client.end_of_input();
@@ -612,14 +619,14 @@ impl<
     }
 }
 
-/// The error of a connection that is failed by an event.
+/// Returns the error with which the event `Fail` fails a connection.
 fn failed_by_hand(alloc: Global) -> Result<Error, AllocError>
     ensures { IfOk result (λ e. e ≡ failed_by_hand) }
 {
     Ok(Error::Socket(Text::from_string(String::from_str(alloc, "failed")?)))
 }
 
-/// A lemma, which does nothing when it runs: the response that a handler gave is a value of its type.
+/// Proves that the response of a handler is a value of its type. This is a lemma: it does nothing when it runs.
 fn lemma_answer_is_value(given: &Result<Response, Error>)
     ensures { (r : AResponse) → given.now ≡ Ok r → IsResponse r }
 {
@@ -628,7 +635,8 @@ fn lemma_answer_is_value(given: &Result<Response, Error>)
     }
 }
 
-/// The same of the response with which a handler ended a stream.
+/// Proves that the response with which a handler ended a stream is a value of its type. This is a lemma: it does nothing
+/// when it runs.
 fn lemma_end_is_value(end: &Result<Option<Response>, Error>)
     ensures { (r : AResponse) → end.now ≡ Ok (Some r) → IsResponse r }
 {
@@ -637,7 +645,7 @@ fn lemma_end_is_value(end: &Result<Option<Response>, Error>)
     }
 }
 
-/// This many zeros. Memory is asked for only where there are some.
+/// Returns `n` zeros. Asks for memory only if `n` isn't 0.
 fn zeros(alloc: Global, n: usize) -> Result<Vec<u8>, AllocError>
     ensures ok { IfOk result (λ bytes. length bytes.items ≡ n) }
     ensures err { OnErr result (0 < n) }

@@ -1,11 +1,12 @@
-//! The bytes in flight to one side.
+//! The pipe that holds the bytes in flight to one side.
 ghost use Rattle.std.specs.Prelude.{◌≡◌, ◌+◌, ◌++◌, ◌<◌, ◌≤◌, [], length, take, drop, if◌then◌else◌, true, false, OnOk, OnErr};
 ghost use Rattle.ttrpc_pair.specs.Pipes.{is_over};
 
 use std::alloc::{AllocError, Global};
 use std::marker::Model;
 
-/// The bytes that one side wrote and the other didn't take yet. One that was cut loses what is written later.
+/// The bytes that one side has written and the other hasn't taken yet. A pipe that was cut loses all bytes that are
+/// written later.
 #[derive(Debug, Drop)]
 pub struct Pipe {
     bytes: Vec<u8>,
@@ -21,7 +22,7 @@ impl Model for Pipe {
 }
 
 impl Pipe {
-    /// An empty pipe that wasn't cut. Takes no memory.
+    /// Returns an empty pipe that wasn't cut. Takes no memory.
     pub fn new(alloc: Global) -> Pipe
         ensures { result ≡ record { bytes = []; cut = false } }
     {
@@ -31,15 +32,15 @@ impl Pipe {
         }
     }
 
-    /// The bytes in flight.
+    /// Returns the bytes in flight.
     pub fn as_slice(&self) -> &[u8]
         ensures { result.now ≡ self.now.bytes }
     {
         self.bytes.as_slice()
     }
 
-    /// Bytes come behind the others, or are lost behind a cut. An `Err` changes nothing, and comes only where there are
-    /// bytes.
+    /// Appends these bytes, or loses them if the pipe was cut. An error changes nothing, and is returned only if `bytes`
+    /// isn't empty.
     pub fn put(&mut self, bytes: &[u8]) -> Result<(), AllocError>
         ensures ok { OnOk result (self.new ≡ record {
           bytes = (if self.old.cut then self.old.bytes else self.old.bytes ++ bytes.now);
@@ -54,7 +55,7 @@ impl Pipe {
         self.bytes.extend_from_slice(bytes)
     }
 
-    /// These bytes take the place of all from `at` on, unless the pipe was cut. Takes no memory.
+    /// Replaces all bytes from `at` on by these, unless the pipe was cut. Takes no memory.
     pub fn replace_from(&mut self, at: usize, bytes: &[u8])
         requires { self.old.cut ≡ false → at + length bytes.now ≤ length self.old.bytes }
         ensures { self.new ≡ record {
@@ -69,7 +70,7 @@ impl Pipe {
         }
     }
 
-    /// The first bytes go.
+    /// Removes the first `n` bytes.
     pub fn drop_front(&mut self, n: usize)
         requires { n ≤ length self.old.bytes }
         ensures { self.new ≡ record { bytes = drop n self.old.bytes; cut = self.old.cut } }
@@ -77,7 +78,7 @@ impl Pipe {
         drop(self.bytes.drain(..n));
     }
 
-    /// The first bytes stay, the others and all later ones are lost. Takes no memory.
+    /// Cuts the pipe: keeps the first `keep` bytes, and loses the others and all later ones. Takes no memory.
     pub fn cut(&mut self, keep: usize)
         ensures { self.new ≡ record { bytes = take keep self.old.bytes; cut = true } }
     {
@@ -85,7 +86,7 @@ impl Pipe {
         self.cut = true;
     }
 
-    /// Whether it was cut and nothing is left to deliver.
+    /// Returns whether the pipe was cut and has no bytes left to deliver.
     pub fn is_over(&self) -> bool
         ensures { result ≡ is_over self.now }
     {

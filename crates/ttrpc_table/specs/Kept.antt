@@ -1,21 +1,21 @@
--- How a table keeps its entries: the older ones in a map, and behind them a row of keys and one of their values.
+-- How a table keeps its entries: the older ones in a map, and after them a row of keys and one of their values.
 -- Source: this project's.
 use Rattle.std.specs.Prelude.{◌≡◌, ℕ, ◌+◌, ◌^◌, ◌<◌, ◌≤◌, List, [], ◌∷◌, ◌++◌, length, slice_index, MatchResult, Result}
 use Rattle.std.specs.List.{zip}
 use Rattle.std.specs.List.Sorted.{IsStrictlySortedBy}
 use Rattle.std.specs.Ordering.{nat_cmp}
 
--- the entries in order: the older ones, and behind them those of the row
+-- the entries in order: the older ones, and after them those of the row
 abbrev pub entries_of : {V : Type 0} → List (ℕ × V) → List ℕ → List V → List (ℕ × V)
 entries_of older keys values = older ++ zip keys values
 
--- what holds of the older keys, of those of the row, and of how many values the row has
+-- The older keys and those of the row rise, the row has a value for each key, and the entries are fewer than 2^63.
 pub record IsKept (older keys : List ℕ) (values : ℕ) : Type 0 where
   pub rise : IsStrictlySortedBy nat_cmp (older ++ keys)
   pub even : length keys ≡ values
   pub few : length older + length keys < 2 ^ 63
 
--- where a key stands, or else how many are below it, and the others above
+-- the place of a key, or else how many keys are below it, with the others above
 abbrev pub IsPlace : List ℕ → ℕ → Result ℕ ℕ → Type 0
 IsPlace keys k r = MatchResult r
     (λ i. (i < length keys) × (slice_index keys i ≡ k))

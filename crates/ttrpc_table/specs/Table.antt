@@ -13,15 +13,15 @@ module _ {V : Type 0} where
   abbrev pub at : List (ℕ × V) → ℕ → Option V
   at entries k = lookup (is_at (nat_cmp k)) entries
 
-  -- with this value under a number, in place of what was there
+  -- the entries with this value under a number, in place of an earlier one
   abbrev pub with_entry : List (ℕ × V) → ℕ → V → List (ℕ × V)
   with_entry entries k v = insert_entry nat_cmp entries k v
 
-  -- with this value under a number that is there
+  -- the entries with this value under a number that has one
   abbrev pub with_value : List (ℕ × V) → ℕ → V → List (ℕ × V)
   with_value entries k v = set_value (is_at (nat_cmp k)) entries v
 
-  -- with nothing under a number
+  -- the entries with nothing under a number
   abbrev pub without : List (ℕ × V) → ℕ → List (ℕ × V)
   without entries k = remove_entry (is_at (nat_cmp k)) entries
 
@@ -30,10 +30,10 @@ module _ {V : Type 0} where
   first [] = None
   first (e ∷ es) = Some e.0
 
-  -- each number stands once, and they rise
+  -- each number comes once, and the numbers rise
   abbrev pub Rise : List (ℕ × V) → Type 0
   Rise entries = IsStrictlySortedBy nat_cmp (keys_of entries)
 
--- once the borrow r ends, the number has the last value written through r; at `None` all stays as it is
+-- after the borrow r ends, the number has the last value written through r; at `None` nothing changes
 abbrev pub lends_at : (V : RattleType) → MutBor (List (ℕ × V.Denot)) → ℕ → Option (MutBor V.Denot) → Fml
 lends_at V s k r = LendsIf (the_row V) V s r (with_value s.now k) s.now

@@ -1,6 +1,6 @@
 //! A map from numbers that mostly rise, as those of calls and jobs do, to values.
-//! Nearly each new number is above all that are there, and what is taken out is mostly among the newest. So the newest
-//! entries stand in a short row, where both cost little, and only those that outlast it go to an ordered map.
+//! Nearly each new number is above all numbers in the map, and removed entries are mostly among the newest. So the newest entries are kept
+//! in a short row, in which both cost little. Only entries that outlast the row go to an ordered map.
 #![tactic(auto)]
 
 ghost use Rattle.std.specs.Prelude.{◌≡◌, ◌↔◌, ◌+◌, ◌<◌, ◌≤◌, ◌^◌, [], ◌∷◌, IfNone, IfSome, IsTrue, ◌++◌, length, All, IfOk, OnOk, OnErr, Err, None, false, insert, option_copied, remove, slice_get, true};
@@ -20,16 +20,16 @@ use std::collections::{BTreeMap, VecDeque};
 use std::marker::Model;
 use std::mem::replace;
 
-// How many entries the row has at most: few enough to be looked through one by one.
+// The most entries of the row: few enough to be searched one by one.
 const ROW: usize = 16;
 
-// How many entries a table has at most, so that their number stays below 2^63 as that of each collection does.
+// The most entries of a table, so that their number stays below 2^63 as that of each collection does.
 const MOST: usize = isize::MAX as usize;
 
 /// Values under numbers, which contracts see by rising number.
 #[derive(Drop)]
 pub struct Table<V: Drop> {
-    // The entries below all of the row.
+    // The entries below all entries of the row.
     older: BTreeMap<u64, V>,
     // The newest entries: their keys, which rise, and their values, in the same order.
     keys: VecDeque<u64>,
@@ -45,11 +45,12 @@ impl<V: Drop> Model for Table<V> {
 
     ghost view = { λ t. entries_of t.older.entries t.keys.items t.values.items };
 
-    ghost invariant = { λ t. IsKept (keys_of t.older.entries) t.keys.items (length t.values.items) };
+    ghost invariant = { λ t. IsKept (keys_of t.older.entries) t.keys.items
+        (length t.values.items) };
 }
 
 impl<V: Drop> Table<V> {
-    /// No entries. Takes no memory.
+    /// Makes a table without entries. Takes no memory.
     pub fn new(alloc: Global) -> Table<V>
         ensures { result ≡ [] }
     {
@@ -60,7 +61,7 @@ impl<V: Drop> Table<V> {
         }
     }
 
-    /// How many entries there are. Takes no memory.
+    /// Returns how many entries there are. Takes no memory.
     pub fn len(&self) -> usize
         ensures count { result ≡ length self.now }
         ensures small { result < 2 ^ 63 }
@@ -69,14 +70,14 @@ impl<V: Drop> Table<V> {
         self.older.len() + self.keys.len()
     }
 
-    /// Whether there are none. Takes no memory.
+    /// Returns whether there are no entries. Takes no memory.
     pub fn is_empty(&self) -> bool
         ensures { IsTrue result ↔ (length self.now ≡ 0) }
     {
         self.len() == 0
     }
 
-    /// The value under a number, if there is one. Takes no memory.
+    /// Returns the value under a number, if there is one. Takes no memory.
     pub fn get(&self, key: u64) -> Option<&V>
         ensures { option_copied result ≡ at self.now key }
     {
@@ -97,12 +98,15 @@ impl<V: Drop> Table<V> {
         }
     }
 
-    /// Puts a value under a number, and gives what was there. An `Err` changes nothing, and comes only where nothing was.
+    /// Puts a value under a number, and returns the value that was there. An `Err` changes nothing, and comes only if no value was there.
     pub fn insert(&mut self, key: u64, value: V) -> Result<Option<V>, AllocError>
+        // At an `Ok` the value is under its number, and the one that was there is returned.
         ensures was { IfOk result (λ was. was ≡ at self.old key) }
         ensures entries { OnOk result (self.new ≡ with_entry self.old key value) }
+        // An error comes only if no value was there, and changes nothing.
         ensures absent { OnErr result (at self.old key ≡ None) }
         ensures err { OnErr result (self.new ≡ self.old) }
+        // Before, each number came once, and the numbers rose.
         ensures rise { Rise self.old }
     {
         if self.len() == MOST {
@@ -125,11 +129,14 @@ impl<V: Drop> Table<V> {
         }
     }
 
-    // The same where no more entries fit.
+    // Puts a value as `insert` does, if no more entries fit.
     fn replace(&mut self, key: u64, value: V) -> Result<Option<V>, AllocError>
+        // Each number comes once, and the numbers rise.
         requires { Rise self.old }
+        // At an `Ok` the value is under its number, and the one that was there is returned.
         ensures was { IfOk result (λ was. was ≡ at self.old key) }
         ensures entries { OnOk result (self.new ≡ with_entry self.old key value) }
+        // An error comes only if no value was there, and changes nothing.
         ensures absent { OnErr result (at self.old key ≡ None) }
         ensures err { OnErr result (self.new ≡ self.old) }
     {
@@ -139,7 +146,7 @@ impl<V: Drop> Table<V> {
         }
     }
 
-    /// Takes the value under a number out, if there is one. Takes no memory.
+    /// Removes the value under a number, if there is one, and returns it. Takes no memory.
     pub fn remove(&mut self, key: u64) -> Option<V>
         ensures value { result ≡ at self.old key }
         ensures entries { self.new ≡ without self.old key }
@@ -151,7 +158,7 @@ impl<V: Drop> Table<V> {
         }
     }
 
-    /// Takes the entry with the least number out, if there is one. Takes no memory.
+    /// Removes the entry with the least number, if there is one, and returns it. Takes no memory.
     pub fn pop_first(&mut self) -> Option<(u64, V)>
         ensures some { IfSome result (λ entry. self.old ≡ entry ∷ self.new) }
         ensures none { IfNone result ((self.old ≡ []) × (self.new ≡ [])) }
@@ -161,7 +168,7 @@ impl<V: Drop> Table<V> {
         Some((key, value))
     }
 
-    /// Takes all entries out. Takes no memory.
+    /// Removes all entries. Takes no memory.
     pub fn clear(&mut self)
         ensures { self.new ≡ [] }
     {
@@ -170,7 +177,7 @@ impl<V: Drop> Table<V> {
         self.values.clear();
     }
 
-    /// The least number that has a value. Takes no memory.
+    /// Returns the least number that has a value. Takes no memory.
     pub fn first(&self) -> Option<u64>
         ensures { result ≡ first self.now }
     {
@@ -181,7 +188,7 @@ impl<V: Drop> Table<V> {
     }
 }
 
-// Where a key stands in the row, or else how many of the row's are below it.
+// Returns the place of a key in the row, or else how many keys of the row are below it.
 fn place(keys: &VecDeque<u64>, key: u64) -> Result<usize, usize>
     requires { IsStrictlySortedBy nat_cmp keys.now.items }
     ensures { IsPlace keys.now.items key result }
@@ -189,7 +196,7 @@ fn place(keys: &VecDeque<u64>, key: u64) -> Result<usize, usize>
     let Some(last) = keys.back() else {
         return Err(0);
     };
-    // Nearly each new key is above all.
+    // Nearly each new key is above all others.
     if *last < key {
         return Err(keys.len());
     }
@@ -201,7 +208,8 @@ fn place(keys: &VecDeque<u64>, key: u64) -> Result<usize, usize>
     Err(keys.len())
 }
 
-// Whether a new key goes to the row, where i of the row's are below it: some are, or it begins a row above all older keys.
+// Returns whether a new key goes to the row, if `i` keys of the row are below it. It does if some are, or if it begins a row above all
+// older keys.
 fn goes_to_row<V: Drop>(older: &BTreeMap<u64, V>, keys: &VecDeque<u64>, i: usize, key: u64) -> bool
     requires rise { IsStrictlySortedBy nat_cmp (keys_of older.now.entries ++ keys.now.items) }
     requires place { IsPlace keys.now.items key (Err i) }
@@ -220,7 +228,7 @@ fn goes_to_row<V: Drop>(older: &BTreeMap<u64, V>, keys: &VecDeque<u64>, i: usize
     }
 }
 
-// Puts a new entry where i keys of the row are below it. The first of a full row moves to the older ones before.
+// Puts a new entry after `i` keys of the row. If the row is full, its first entry moves to the older ones before.
 fn add<V: Drop>(
     older: &mut BTreeMap<u64, V>,
     keys: &mut VecDeque<u64>,
@@ -229,11 +237,14 @@ fn add<V: Drop>(
     key: u64,
     value: V,
 ) -> Result<(), AllocError>
+    // The entries are valid. The key comes after `i` keys of the row and after all older ones, and one more entry fits.
     requires kept { IsKept (keys_of older.old.entries) keys.old.items (length values.old.items) }
     requires place { IsPlace keys.old.items key (Err i) }
     requires newer { All (λ x. x < key) (keys_of older.old.entries) }
     requires room { length older.old.entries + length keys.old.items + 1 < 2 ^ 63 }
+    // The entries are valid again.
     ensures kept { IsKept (keys_of older.new.entries) keys.new.items (length values.new.items) }
+    // At an `Ok` there is the new entry with the others. An error changes no entry.
     ensures ok { OnOk result (entries_of older.new.entries keys.new.items values.new.items
         ≡ with_entry (entries_of older.old.entries keys.old.items values.old.items) key value) }
     ensures err { OnErr result (entries_of older.new.entries keys.new.items values.new.items
@@ -246,16 +257,19 @@ fn add<V: Drop>(
     put(keys, values, i - 1, key, value)
 }
 
-// Moves the first entry of the row behind the older ones.
+// Moves the first entry of the row after the older ones.
 fn age<V: Drop>(
     older: &mut BTreeMap<u64, V>,
     keys: &mut VecDeque<u64>,
     values: &mut VecDeque<V>,
 ) -> Result<(), AllocError>
+    // The entries are valid, and the row has some.
     requires kept { IsKept (keys_of older.old.entries) keys.old.items (length values.old.items) }
     requires some { 0 < length keys.old.items }
+    // At an `Ok` the first entry of the row is the last of the older ones.
     ensures ok { OnOk result (Ages older.old.entries keys.old.items values.old.items
         older.new.entries keys.new.items values.new.items) }
+    // An error changes nothing.
     ensures older { OnErr result (older.new.entries ≡ older.old.entries) }
     ensures keys { OnErr result (keys.new.items ≡ keys.old.items) }
     ensures values { OnErr result (values.new.items ≡ values.old.items) }
@@ -266,14 +280,14 @@ fn age<V: Drop>(
     let Err(failed) = older.insert(key, value) else {
         return Ok(());
     };
-    // It goes back to its place, which is still free.
+    // The entry goes back to its place, which is still free.
     let (key, value) = failed.value;
     keys.push_front_reserved(key);
     values.push_front_reserved(value);
     Err(AllocError)
 }
 
-// Puts an entry at a place of the row.
+// Puts an entry at place `i` of the row.
 fn put<V: Drop>(
     keys: &mut VecDeque<u64>,
     values: &mut VecDeque<V>,
@@ -281,14 +295,17 @@ fn put<V: Drop>(
     key: u64,
     value: V,
 ) -> Result<(), AllocError>
+    // The place is at most the row's length, and the row has a value for each key.
     requires within { i ≤ length keys.old.items }
     requires even { length keys.old.items ≡ length values.old.items }
+    // At an `Ok` the key and the value are at this place, between the others.
     ensures ok_keys { OnOk result (keys.new.items ≡ insert keys.old.items i key) }
     ensures ok_values { OnOk result (values.new.items ≡ insert values.old.items i value) }
+    // An error changes nothing.
     ensures err_keys { OnErr result (keys.new.items ≡ keys.old.items) }
     ensures err_values { OnErr result (values.new.items ≡ values.old.items) }
 {
-    // Once there is room for the key, only the value can fail, so no key stays without one.
+    // After there is room for the key, only the value can fail, so no key stays without a value.
     keys.reserve(1)?;
     if i == keys.len() {
         values.push_back(value)?;
@@ -300,11 +317,14 @@ fn put<V: Drop>(
     Ok(())
 }
 
-// Takes the entry at a place of the row out.
+// Removes the entry at place `i` of the row, and returns its value.
 fn take<V: Drop>(keys: &mut VecDeque<u64>, values: &mut VecDeque<V>, i: usize) -> Option<V>
+    // The place is in the row, and the row has a value for each key.
     requires within { i < length keys.old.items }
     requires even { length keys.old.items ≡ length values.old.items }
+    // The value at this place is returned.
     ensures value { result ≡ slice_get values.old.items i }
+    // The entry at this place is gone, and the others are as they were.
     ensures keys { keys.new.items ≡ remove keys.old.items i }
     ensures values { values.new.items ≡ remove values.old.items i }
 {

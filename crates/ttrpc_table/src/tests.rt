@@ -1,4 +1,4 @@
-//! Tables of more entries than the row has: what calls give and leave, and what is there where memory was refused.
+//! Tables with more entries than the row has: the results of calls, the entries that they leave, and the table after memory was refused.
 
 use super::Table;
 use std::test::Fail;
@@ -49,7 +49,7 @@ fn has(table: &Table<u64>, entries: &[(u64, u64)]) -> bool {
     all
 }
 
-/// Puts a value under a key, and returns whether this was there before. Where memory is refused, the table is as it was.
+/// Puts a value under a key, and returns whether `was` was there before. If memory is refused, checks that the table is as it was.
 fn puts(
     table: &mut Table<u64>,
     (key, value): (u64, u64),
@@ -65,7 +65,7 @@ fn puts(
     }
 }
 
-/// Puts the keys that rise into an empty table, and returns whether it has them then.
+/// Puts the rising keys into an empty table, and returns whether it has them then.
 fn rises(table: &mut Table<u64>) -> Result<bool, Fail> {
     let mut all = has(table, &[]);
     for (i, entry) in RISING.iter().enumerate() {
@@ -121,8 +121,8 @@ fn entries_leave_out_of_order(rt: HostRuntime) -> Tested {
     check(leave && has(&table, &[]))
 }
 
-/// An entry for a table of the keys that rise, what is there before, and how many entries are then: its key is among the
-/// older ones, between them, below all, in the row, between those of the row, and above all.
+/// An entry for a table of the rising keys, the value under its key before, and the number of entries afterwards. The key is, in turn,
+/// among the older keys, between two of them, below all, in the row, between two keys of the row, and above all.
 const MORE: [((u64, u64), Option<u64>, usize); 6] = [
     ((20, 21), Some(2), 20),
     ((25, 22), None, 21),
@@ -132,7 +132,7 @@ const MORE: [((u64, u64), Option<u64>, usize); 6] = [
     ((205, 26), None, 21),
 ];
 
-/// Returns whether all entries that rise leave the table, of which this one has replaced its value.
+/// Returns whether all rising entries leave the table, in which this entry may have replaced one of their values.
 fn rising_leave(table: &mut Table<u64>, entry: (u64, u64)) -> bool {
     let mut all = true;
     for (key, value) in RISING {
@@ -142,7 +142,8 @@ fn rising_leave(table: &mut Table<u64>, entry: (u64, u64)) -> bool {
     all
 }
 
-/// Returns whether the entry comes into the table, which has so many then, and stays there alone if its key is new.
+/// Returns whether the entry comes into the table, which then has `len` entries. If the entry's key is new, it must stay alone after the
+/// others have left.
 fn comes(
     table: &mut Table<u64>,
     entry: (u64, u64),
@@ -163,7 +164,7 @@ fn entries_come_anywhere(rt: HostRuntime) -> Tested {
     Ok(())
 }
 
-/// Returns whether the entries leave by rising key, and nothing behind them.
+/// Returns whether the entries leave by rising key, and nothing after them.
 fn leave_by_key(table: &mut Table<u64>) -> bool {
     let mut all = true;
     for entry in RISING {

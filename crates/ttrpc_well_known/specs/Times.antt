@@ -1,4 +1,4 @@
--- What a `Timestamp` and a `Duration` mean, where std's times can tell.
+-- The meaning of a `Timestamp` and a `Duration`, if std's times can represent it.
 -- Source: google/protobuf/timestamp.proto and duration.proto of Protocol Buffers, the comments of their members.
 use Rattle.std.specs.Prelude.{ℕ, ℤ, ◌≡◌, ◌≤◌, ◌<◌, ◌+◌, ◌*◌, pos}
 use Rattle.ttrpc_well_known.specs.declared.messages.Timestamp.{Timestamp}
@@ -12,11 +12,12 @@ billion = 1_000_000_000
 abbrev pub last_second : ℕ
 last_second = 253_402_300_799
 
--- the seconds of some 10,000 years, which no span is longer than
+-- the seconds of some 10,000 years: no span is longer
 abbrev pub longest_span : ℕ
 longest_span = 315_576_000_000
 
--- seconds and nanoseconds are so many nanoseconds: neither is negative, and the second stay below a second
+-- seconds and nanoseconds are `count` nanoseconds: neither is negative, the seconds are at most `last`, and the
+-- nanoseconds are less than a second
 pub record AreNanos (seconds nanos : ℤ) (last count : ℕ) : Type 0 where
   pub whole : ℕ
   pub part : ℕ
@@ -26,10 +27,10 @@ pub record AreNanos (seconds nanos : ℤ) (last count : ℕ) : Type 0 where
   pub below : part < billion
   pub sum : count ≡ whole * billion + part
 
--- a `Timestamp` is the moment so many nanoseconds after the beginning of 1970
+-- a `Timestamp` is the moment `count` nanoseconds after the beginning of 1970
 abbrev pub IsMoment : Timestamp → ℕ → Type 0
 IsMoment t = AreNanos t.seconds t.nanos last_second
 
--- a `Duration` is a span of so many nanoseconds
+-- a `Duration` is a span of `count` nanoseconds
 abbrev pub IsSpan : Duration → ℕ → Type 0
 IsSpan d = AreNanos d.seconds d.nanos longest_span

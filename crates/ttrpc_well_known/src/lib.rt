@@ -1,4 +1,5 @@
-//! The messages of Google's that many files name, with what carries a message in an `Any`, and times from and to std's.
+//! The messages by Google that many files use, a message inside an `Any`, and conversions of times from and to those of
+//! std.
 #![tactic(auto)]
 
 pub mod any;

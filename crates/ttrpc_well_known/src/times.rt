@@ -7,7 +7,7 @@ ghost use Rattle.ttrpc_well_known.specs.Times.{AreNanos, IsMoment, IsSpan, billi
 use crate::messages::{Duration, Timestamp};
 use std::time::{self, SystemTime};
 
-/// A time that the other type can't tell.
+/// A time that the other type can't represent.
 #[derive(Debug, Clone, Copy, PartialEq, Eq)]
 pub struct OutOfRange {}
 
@@ -65,7 +65,7 @@ impl Duration {
     }
 }
 
-/// Returns the seconds and nanoseconds of a span, if it has no more seconds than the last.
+/// Returns the seconds and nanoseconds of a span, if it has at most `last` seconds.
 fn parts(span: time::Duration, last: u64) -> Result<(i64, i32), OutOfRange>
     requires { last < 2 ^ 63 }
     ensures ok { IfOk result (λ p. AreNanos p.0 p.1 last (as_nanos span)) }
@@ -78,7 +78,8 @@ fn parts(span: time::Duration, last: u64) -> Result<(i64, i32), OutOfRange>
     Ok((seconds as i64, span.subsec_nanos() as i32))
 }
 
-/// Returns the span of so many seconds and nanoseconds, if it has no more seconds than the last.
+/// Returns the span of this many seconds and nanoseconds. Returns an error if the seconds are negative or more than
+/// `last`, or if the nanoseconds are negative or a second or more.
 fn whole(seconds: i64, nanos: i32, last: u64) -> Result<time::Duration, OutOfRange>
     ensures ok { IfOk result (λ span. AreNanos seconds nanos last (as_nanos span)) }
     ensures err { IfErr result (λ _. (count : ℕ) → ¬ (AreNanos seconds nanos last count)) }

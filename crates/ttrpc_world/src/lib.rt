@@ -1,5 +1,5 @@
-//! One client and one server over two byte pipes, and what holds of every list of events that happen to them. In `headline`
-//! the law of every run.
+//! One client and one server over two byte pipes, and the run of any list of events on them. The laws of every run are in
+//! `headline`.
 #![tactic(auto)]
 
 pub mod headline;

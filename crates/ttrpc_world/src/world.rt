@@ -1,4 +1,4 @@
-//! The world: one client and one server over two pipes, and what holds of every list of events that happen to them.
+//! The world: one client and one server over two pipes, and the run of any list of events on them.
 ghost use Rattle.std.specs.Prelude.{◌≡◌, ◌≤◌, [], ℕ, length, map, IfOk, IfErr};
 ghost use Rattle.std.specs.Vec.{vec_capacity};
 ghost use Rattle.ttrpc_proto.specs.declared.error.Error.{Error as AnError};
@@ -13,7 +13,7 @@ use std::marker::Model;
 use ttrpc_proto::Error;
 use ttrpc_secure::{InboundTransform, OutboundTransform};
 
-/// A client and a server, each over its two halves, and the bytes in flight between them.
+/// A client and a server, each over its outbound and inbound half, and the bytes in flight between them.
 #[derive(Drop)]
 pub struct World<CO, CI, SO, SI> {
     pair: Pair<CO, CI, SO, SI>,
@@ -33,7 +33,7 @@ impl<
     SO: OutboundTransform + Drop,
     SI: InboundTransform + Drop,
 > World<CO, CI, SO, SI> {
-    /// A world of these two cores, with nothing in flight, at moment 0. Takes no memory.
+    /// Returns a world of these two cores, with nothing in flight, at moment 0. Takes no memory.
     pub fn new(alloc: Global, client: ClientCore<CO, CI>, server: ServerCore<SO, SI>) -> Self
         ensures { result ≡ record {
           client = client;
@@ -49,32 +49,31 @@ impl<
         }
     }
 
-    /// Lets these events happen, in order, and gives each with its reply. Its error is `NoMemory`, where room for the
-    /// trace is refused, before any event.
+    /// Lets these events happen, in order, and returns each with its reply. Returns `NoMemory` if room for the trace is
+    /// refused, before any event happens.
     pub fn run(self, alloc: Global, events: Vec<Event>) -> Result<Trace, Error>
         requires { IsFresh
             (halves CO.OutboundTransform CI.InboundTransform)
             (halves SO.OutboundTransform SI.InboundTransform) self }
-        // One entry an event, in order.
+        // The trace has one entry for each event, in order.
         ensures events { IfOk result (λ trace. map AnEntry.event trace.items ≡ events.items) }
-        // Each reply is one that the cores' tables allow.
+        // Each entry is a step that the cores' tables allow.
         ensures steps { IfOk result (λ trace. (last : Net _ _ _ _) × Runs
             (halves CO.OutboundTransform CI.InboundTransform)
             (halves SO.OutboundTransform SI.InboundTransform) CO.SEALS
             self trace.items last) }
-        // Under one function that gives each job its stream, no two the same: no handler runs without a call or a stream, nor
-        // twice for one, nor with another request; each call has at most one outcome, and an `Ok` is the answer of its one
-        // run. At each place of the trace the items that a receiver was given are a beginning of those that were put in, in
-        // order, and where it was told an end, they are all. Where the run is clean and quiet, each call that names a method
-        // of this server, and was asked for, is whole: one run, one answer, and what is told of that answer as its outcome;
-        // and a receiver that is asked out was given all items that were put in.
+        // One function gives each job its stream id, and no two jobs have the same one. No handler runs without a call or a
+        // stream, twice for one of them, or with another request. Each call has at most one outcome, and an `Ok` outcome is
+        // the answer of its one run. At each place of the trace, the items that a receiver was given are a beginning of the
+        // items that were put in, in order. A receiver that was given an end was given all items. In a clean quiet run, a
+        // call of a method of this server is whole if it was asked for. It has one run, one answer, and the outcome that this
+        // answer gives. In such a run, a receiver that is asked out was given all items that were put in.
         ensures told { IfOk result (λ trace. (stream_of : ℕ → ℕ) × IsTold
             self.server.state.rules
             self.server.state.services
             (safe_limit SO.OutboundTransform self.server.connection.outbox.half)
             stream_of trace.items) }
-        // A job that was handed out, and whose request names a method of the server, is answered by one response and is no
-        // stream's.
+        // A job that was handed out for a method of the server isn't a stream's job: it is answered by one response.
         ensures named { IfOk result (λ trace. AreNamed self.server.state.services trace.items) }
         ensures refused { IfErr result (λ error. error ≡ AnError.NoMemory) }
     {
@@ -83,7 +82,7 @@ impl<
         world.run_all(alloc, events)
     }
 
-    /// Lets these events happen, and gives each with its reply. An `Err` comes before any event.
+    /// Lets these events happen, and returns each with its reply. An error is returned before any event happens.
     fn run_all(&mut self, alloc: Global, events: Vec<Event>) -> Result<Trace, Error>
         ensures events { IfOk result (λ trace. map AnEntry.event trace.items ≡ events.items) }
         ensures steps { IfOk result (λ trace. Runs
@@ -98,7 +97,8 @@ impl<
     }
 }
 
-/// Lets these events happen to a pair, and keeps each with its reply. There is room for them.
+/// Lets these events happen to a pair, and pushes each with its reply onto the trace, which is empty and has room for
+/// all of them.
 fn run_pair<
     CO: OutboundTransform + Drop,
     CI: InboundTransform + Drop,

@@ -1,5 +1,5 @@
--- What was put into a call or a stream each way, what its receivers were told, and that the items which they were given are a
--- beginning of those that were put in, in order, and an end comes behind all of them.
+-- The items that were put into a call or a stream each way, and the results of its receivers. The items that a receiver was given are
+-- a beginning of the items that were put in, in order, and an end comes after all of them.
 -- Source: this project's; what closes a stream, and what the flags of its request mean: PROTOCOL.md of ttrpc, "Streaming".
 use Rattle.std.specs.Prelude.{◌≡◌, ℕ, List, [], ◌∷◌, ◌++◌, nat_eq, ◌||◌, Bool, true, false, Option, Some, Result, Ok, Err}
 use Rattle.std.specs.List.{flat_map}
@@ -15,15 +15,15 @@ use Rattle.ttrpc_world_trace.specs.Trace.{only_if, some_of}
 
 -- ---- what happened to the items of one id
 
--- what a receiver was told: an item, or why there is none
+-- a result of a receiver: an item or an error
 abbrev pub Word : Type 0
 Word = Result (List ℕ) Error
 
--- what happened to the items of a call or a stream
+-- an event of the items of a call or a stream
 pub data Flow : Type 0 where
   -- a call was accepted
   Asked : (request : Request) → Flow
-  -- a stream was opened, to send items or not
+  -- a stream was opened; `up` is true if the client sends items
   Began : (request : Request) → (up : Bool) → Flow
   -- the client sent an item
   SentUp : (bytes : List ℕ) → Flow
@@ -33,12 +33,12 @@ pub data Flow : Type 0 where
   SentDown : (bytes : List ℕ) → Flow
   -- its job was answered or ended, or a response was queued for it
   EndedDown : (result : Result (Option Response) Error) → Flow
-  -- the server's receiver was told
+  -- the server's receiver had this result
   HeardUp : (word : Word) → Flow
-  -- the client's receiver was told
+  -- the client's receiver had this result
   HeardDown : (word : Word) → Flow
 
--- What an event with its reply is to the items of id k; `stream_of job` is the stream id of a job.
+-- Returns the `Flow` of an event with its reply, if it concerns the items of id k. `stream_of job` is the stream id of a job.
 abbrev pub flow_of : (stream_of : ℕ → ℕ) → ℕ → Event → Reply → List Flow
 flow_of stream_of k (Call request) (Named id) = only_if (nat_eq id k) (Asked request)
 flow_of stream_of k (Open request up down) (Named id) = only_if (nat_eq id k) (Began request up)
@@ -52,35 +52,36 @@ flow_of stream_of k (Recv (end.Server job)) (Item (Some word)) = only_if (nat_eq
 flow_of stream_of k (Recv (end.Client id)) (Item (Some word)) = only_if (nat_eq id k) (HeardDown word)
 flow_of stream_of k event reply = []
 
--- THE ITEMS OF ONE ID: all that a trace says of them, in order.
+-- THE ITEMS OF ONE ID. Returns each `Flow` of id k in a trace, in order.
 abbrev pub flows : (stream_of : ℕ → ℕ) → ℕ → List Entry → List Flow
 flows stream_of k trace = flat_map (λ (e : Entry). flow_of stream_of k e.event e.reply) trace
 
--- ---- what the caller is told of an answer
+-- ---- the outcome of an answer
 
--- what a client makes of the response that is queued for this one: it may be too long, and is replaced then
+-- Returns the outcome that a client makes of this response as the server queues it. The server replaces a response that is too long.
 abbrev pub told_by : Rules → ℕ → Response → Result Response Error
 told_by rules limit r = by_status (fitted rules limit r).status (fitted rules limit r)
 
--- What is told of what a handler gave, under the server's rules and the limit of what it may seal. Under sync rules nothing
--- is told of an error.
+-- Holds if a handler's result may give this outcome, under the server's rules and the limit of the data that it may seal. Under sync
+-- rules an error gives no outcome.
 abbrev pub Tells : Rules → ℕ → Result Response Error → Result Response Error → Type 0
 Tells rules limit result outcome = (answer : Response) × IsSentFor rules result answer × (outcome ≡ told_by rules limit answer)
 
 -- ---- what was put in
 
--- what a response puts in, by what is told of it: its payload, behind which nothing comes, or the close alone
+-- Returns the thing that a response puts in. For the outcome `Ok` this is its payload as the last item, and for an error only the
+-- end.
 abbrev pub last_thing : Result Response Error → Response → Thing
 last_thing (Ok told) r = thing.Last r.payload
 last_thing (Err error) r = thing.End
 
--- what an answer or an end puts in
+-- Returns the thing that an answer or an end puts in.
 abbrev pub ending_thing : Rules → ℕ → Result (Option Response) Error → Thing
 ending_thing rules limit (Ok (Some r)) = last_thing (told_by rules limit r) r
 ending_thing rules limit result = thing.End
 
--- Upwards: the payload of the request, unless items come later, then what was sent. A stream whose client sends nothing more
--- is closed by its request, and a call by nothing.
+-- Returns all that was put in upwards: the request's payload, unless it opens a stream on which the client sends items, and then what
+-- the client sent. The request closes a stream on which the client sends no items. The request of a call closes nothing.
 abbrev pub put_up : List Flow → List Thing
 put_up [] = []
 put_up (Asked request ∷ xs) = thing.Item request.payload ∷ put_up xs
@@ -90,92 +91,93 @@ put_up (SentUp bytes ∷ xs) = thing.Item bytes ∷ put_up xs
 put_up (ClosedUp ∷ xs) = thing.End ∷ put_up xs
 put_up (x ∷ xs) = put_up xs
 
--- Downwards: what the job sent, then the payload of its answer, if it is told as it is. The answer or the end closes.
+-- Returns all that was put in downwards: the items that the job sent, and then the payload of its answer, if the outcome is `Ok`. The
+-- answer or the end closes.
 abbrev pub put_down : Rules → ℕ → List Flow → List Thing
 put_down rules limit [] = []
 put_down rules limit (SentDown bytes ∷ xs) = thing.Item bytes ∷ put_down rules limit xs
 put_down rules limit (EndedDown result ∷ xs) = ending_thing rules limit result ∷ put_down rules limit xs
 put_down rules limit (x ∷ xs) = put_down rules limit xs
 
--- the items among what was put in
+-- Returns the items among the things that were put in.
 abbrev pub items : List Thing → List (List ℕ)
 items [] = []
 items (thing.Item bytes ∷ xs) = bytes ∷ items xs
 items (thing.Last bytes ∷ xs) = bytes ∷ items xs
 items (x ∷ xs) = items xs
 
--- whether it was closed
+-- Returns true if a last item or an end was put in.
 abbrev pub closed : List Thing → Bool
 closed [] = false
 closed (thing.Last bytes ∷ xs) = true
 closed (thing.End ∷ xs) = true
 closed (x ∷ xs) = closed xs
 
--- ---- what a receiver was told
+-- ---- the results of a receiver
 
--- what the server's receiver was told, in order
+-- Returns the results of the server's receiver, in order.
 abbrev pub heard_up : List Flow → List Word
 heard_up [] = []
 heard_up (HeardUp word ∷ xs) = word ∷ heard_up xs
 heard_up (x ∷ xs) = heard_up xs
 
--- what the client's was
+-- Returns the results of the client's receiver, in order.
 abbrev pub heard_down : List Flow → List Word
 heard_down [] = []
 heard_down (HeardDown word ∷ xs) = word ∷ heard_down xs
 heard_down (x ∷ xs) = heard_down xs
 
--- the items that a receiver was given
+-- Returns the items that a receiver was given, in order.
 abbrev pub got : List Word → List (List ℕ)
 got [] = []
 got (Ok bytes ∷ xs) = bytes ∷ got xs
 got (Err error ∷ xs) = got xs
 
--- what a receiver was told last
+-- the last result of a receiver
 pub data Mood : Type 0 where
-  -- nothing yet
+  -- no result yet
   Fresh : Mood
   -- an item
   AfterItem : Mood
-  -- that no more items come
+  -- an end: no more items come
   AtEnd : Mood
   -- an error that is no end
   AfterError : Mood
 
--- that the other side has closed is an end directly behind an item, and behind an end
+-- Returns the last result after the error `RemoteClosed`. This error is an end if it comes directly after an item or an end.
 abbrev pub after_closed : Mood → Mood
 after_closed Fresh = AfterError
 after_closed AfterItem = AtEnd
 after_closed AtEnd = AtEnd
 after_closed AfterError = AfterError
 
--- what is so once this was told, too
+-- Returns the last result after this one.
 abbrev pub after : Mood → Word → Mood
 after mood (Ok bytes) = AfterItem
 after mood (Err Eof) = AtEnd
 after mood (Err RemoteClosed) = after_closed mood
 after mood (Err error) = AfterError
 
--- whether that is an end
+-- Returns true if the last result is an end.
 abbrev pub is_end : Mood → Bool
 is_end AtEnd = true
 is_end mood = false
 
--- whether an end was among what was told
+-- Returns true if an end is among these results. `mood` is the last result before them.
 abbrev pub has_end : Mood → List Word → Bool
 has_end mood [] = false
 has_end mood (x ∷ xs) = is_end (after mood x) || has_end (after mood x) xs
 
 -- ---- in order
 
--- THE ITEMS OF ONE RECEIVER, IN ORDER: what it was given is a beginning of what was put in. Where an end was told, what was
--- put in is closed, and all of it was given.
+-- THE ITEMS OF ONE RECEIVER, IN ORDER. Holds if the items that a receiver was given are a beginning of the items that were put in. If
+-- the receiver was given an end, then a last item or an end was put in, and the receiver was given all items.
 pub record IsInOrder (put : List Thing) (told : List Word) : Type 0 where
   pub rest : List (List ℕ)
   pub beginning : items put ≡ got told ++ rest
   pub whole : has_end Fresh told ≡ true → (rest ≡ []) × (closed put ≡ true)
 
--- both ways
+-- Holds if the items are in order, both upwards and downwards.
 pub record AreInOrder (rules : Rules) (limit : ℕ) (xs : List Flow) : Type 0 where
   pub up : IsInOrder (put_up xs) (heard_up xs)
   pub down : IsInOrder (put_down rules limit xs) (heard_down xs)

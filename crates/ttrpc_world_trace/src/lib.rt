@@ -1,6 +1,6 @@
-//! What may happen to one client and one server over two byte pipes, what is replied, and what a trace of it says of each
-//! call and stream. In `flight` the frames between the two; what there is of one call, and what may become of it, are
-//! definitions and lemmas alone.
+//! The events of one client and one server over two byte pipes, their replies, and the properties of a trace of them for each
+//! call and stream. Laws of the frames between the two are in `flight`. The state of one call and its possible changes are in
+//! definitions and lemmas only.
 #![tactic(auto)]
 
 mod events;

@@ -10,8 +10,8 @@ use std::fmt::Display;
 use ttrpc_proto::{Error, Request, RequestInit, Result};
 use ttrpc_wire::Codec;
 
-/// The request that asks a service's method with this value, as the context says. An error is `NoMemory`, or tells of a value
-/// that is too long to be written: `Others` of `Encoding request ` and what the codec's error prints.
+/// Makes the request that calls a service's method with this value, and with the context's metadata and time limit. The error is
+/// `NoMemory`, or, if the value is too long to be written, `Others` of `Encoding request ` and the text that the codec's error prints.
 pub fn request_of<M: Codec>(
     alloc: Global,
     service: &str,
@@ -29,7 +29,8 @@ where
       metadata = pairs_of context.metadata;
     }) }
     ensures again { IfOk result (λ request. M.meaning request.payload ≡ Some message.now) }
-    ensures err { IfErr result (IsUnwritten (codes "Encoding request ") M.E.is_no_memory M.E.output (M.written message.now)) }
+    ensures err { IfErr result (IsUnwritten (codes "Encoding request ") M.E.is_no_memory M.E.output
+        (M.written message.now)) }
 {
     match message.encode(alloc) {
         Ok(payload) => with_payload(alloc, service, method, context, payload),
@@ -37,7 +38,7 @@ where
     }
 }
 
-/// The request that asks a service's method with this payload, as the context says.
+/// Makes the request that calls a service's method with this payload, and with the context's metadata and time limit.
 fn with_payload(
     alloc: Global,
     service: &str,
@@ -69,16 +70,18 @@ fn with_payload(
     Ok(request)
 }
 
-/// Takes the payload of a response into the value that a client has ready for it. An error changes nothing; it is `NoMemory`,
-/// or tells that the value's written form with the payload behind it means nothing, or is too long by itself: `Others` of
-/// `Unpack get error ` and what the codec's error prints.
+/// Merges the payload of a response into the value that a client has ready for it. After an error nothing has changed. The error is
+/// `NoMemory`, or `Others` of `Unpack get error ` and the text that the codec's error prints. The latter means that the value's written
+/// form followed by the payload means no value, or that this written form is too long by itself.
 pub fn merge_reply<M: Codec>(alloc: Global, reply: &mut M, payload: &[u8]) -> Result<()>
 where
     M::E: Display + Drop,
     ensures ok { OnOk result (M.meaning (M.written reply.old ++ payload.now) ≡ Some reply.new) }
     ensures refused { IfErr result (λ e. e ≢ Error.NoMemory
-        → (2 ^ 64 - 1 ≤ length (M.written reply.old)) ⊎ (M.meaning (M.written reply.old ++ payload.now) ≡ None)) }
-    ensures told { IfErr result (TellsCause (codes "Unpack get error ") M.E.is_no_memory M.E.output) }
+        → (2 ^ 64 - 1 ≤ length (M.written reply.old))
+        ⊎ (M.meaning (M.written reply.old ++ payload.now) ≡ None)) }
+    ensures told { IfErr result
+        (TellsCause (codes "Unpack get error ") M.E.is_no_memory M.E.output) }
     ensures err { OnErr result (reply.new ≡ reply.old) }
 {
     match reply.merge(alloc, payload) {

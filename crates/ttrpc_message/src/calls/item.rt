@@ -8,14 +8,15 @@ use std::fmt::Display;
 use ttrpc_proto::{Error, Result};
 use ttrpc_wire::{Blob, Codec};
 
-/// The written form of an item that is to be sent. An error is `NoMemory`, or tells of an item that is too long to be written:
-/// `Others` of `Encode message failed. ` and what the codec's error prints.
+/// Encodes an item that is to be sent. The error is `NoMemory`, or, if the item is too long to be written, `Others` of `Encode message
+/// failed. ` and the text that the codec's error prints.
 pub fn encode_item<M: Codec>(alloc: Global, item: &M) -> Result<Vec<u8>>
 where
     M::E: Display + Drop,
     ensures ok { IfOk result (λ bytes. bytes.items ≡ M.written item.now) }
     ensures again { IfOk result (λ bytes. M.meaning bytes.items ≡ Some item.now) }
-    ensures err { IfErr result (IsUnwritten (codes "Encode message failed. ") M.E.is_no_memory M.E.output (M.written item.now)) }
+    ensures err { IfErr result (IsUnwritten (codes "Encode message failed. ") M.E.is_no_memory
+        M.E.output (M.written item.now)) }
 {
     match item.encode(alloc) {
         Ok(bytes) => Ok(bytes),
@@ -23,8 +24,8 @@ where
     }
 }
 
-/// The item that a stream gave. Of bytes that mean none the error is `NoMemory`, or `Others` of `Decode message failed. ` and
-/// what the codec's error prints.
+/// Decodes an item that a stream gave, or passes on the stream's error. If the bytes mean no item, the error is `Others` of `Decode message
+/// failed. ` and the text that the codec's error prints. The error is `NoMemory` if memory was refused.
 pub fn decode_item<M: Codec>(alloc: Global, given: Result<Blob>) -> Result<M>
 where
     M::E: Display + Drop,
@@ -39,7 +40,7 @@ where
     }
 }
 
-/// The same of a stream whose end, `Eof`, is told as none.
+/// Decodes an item as `decode_item` does, and returns `None` at the end of the stream, `Eof`.
 pub fn decode_item_or_end<M: Codec>(alloc: Global, given: Result<Blob>) -> Result<Option<M>>
 where
     M::E: Display + Drop,

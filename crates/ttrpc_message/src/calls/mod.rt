@@ -1,5 +1,6 @@
-//! What the macros of services and of their clients call: a value out of a request and into a response, a value into a
-//! request and out of a response. And the items of streams.
+//! The functions that the macros of services and of their clients call. For a service they take a value out of a
+//! request, and put one into a response. For a client they put a value into a request, and take one out of a response.
+//! Others convert the items of streams.
 
 mod client;
 mod item;

@@ -8,14 +8,15 @@ use std::fmt::Display;
 use ttrpc_proto::{Error, Response, ResponseInit, Result, get_rpc_status, get_status};
 use ttrpc_wire::{Code, Codec};
 
-/// The value that the payload of a request means. An error is `NoMemory`, or tells that it means none: `Others` of
-/// `Unpack request error ` and what the codec's error prints.
+/// Decodes the payload of a request. The error is `NoMemory`, or, if the payload means no value, `Others` of `Unpack request error ` and
+/// the text that the codec's error prints.
 pub fn decode_request<M: Codec>(alloc: Global, payload: &[u8]) -> Result<M>
 where
     M::E: Display + Drop,
     ensures ok { IfOk result (λ message. M.meaning payload.now ≡ Some message) }
     ensures refused { IfErr result (λ e. e ≢ Error.NoMemory → M.meaning payload.now ≡ None) }
-    ensures told { IfErr result (TellsCause (codes "Unpack request error ") M.E.is_no_memory M.E.output) }
+    ensures told { IfErr result
+        (TellsCause (codes "Unpack request error ") M.E.is_no_memory M.E.output) }
 {
     match M::decode(alloc, payload) {
         Ok(message) => Ok(message),
@@ -23,14 +24,15 @@ where
     }
 }
 
-/// The same, for a service that answers a payload which means no value: the error is `NoMemory`, or the status of code
-/// INVALID_ARGUMENT (`RpcStatus`) whose message is that text.
+/// Decodes a payload as `decode_request` does, for a service that answers a payload which means no value. The error is `NoMemory`, or the
+/// status of code INVALID_ARGUMENT (`RpcStatus`) with that text as its message.
 pub fn checked_request<M: Codec>(alloc: Global, payload: &[u8]) -> Result<M>
 where
     M::E: Display + Drop,
     ensures ok { IfOk result (λ message. M.meaning payload.now ≡ Some message) }
     ensures refused { IfErr result (λ e. e ≢ Error.NoMemory → M.meaning payload.now ≡ None) }
-    ensures told { IfErr result (RefusesCause (codes "Unpack request error ") M.E.is_no_memory M.E.output) }
+    ensures told { IfErr result
+        (RefusesCause (codes "Unpack request error ") M.E.is_no_memory M.E.output) }
 {
     match decode_request(alloc, payload) {
         Ok(message) => Ok(message),
@@ -39,9 +41,9 @@ where
     }
 }
 
-/// The response that tells what a service answered: a value with an OK status, or the status that the error carries or that
-/// is made of it. An error is `NoMemory`, or tells of a value that is too long to be written: `Others` of
-/// `Encoding response ` and what the codec's error prints.
+/// Makes the response for a service's answer: a value with an OK status, or the status that the error carries or that is made of it. The
+/// error is `NoMemory`, or, if the value is too long to be written, `Others` of `Encoding response ` and the text that the codec's error
+/// prints.
 pub fn response_of<M: Codec>(alloc: Global, answer: Result<M>) -> Result<Response>
 where
     M::E: Display + Drop,
@@ -54,12 +56,14 @@ where
     }
 }
 
-/// The response of an OK status that carries this value.
+/// Makes a response with an OK status that carries this value.
 fn ok_response<M: Codec>(alloc: Global, message: &M) -> Result<Response>
 where
     M::E: Display + Drop,
-    ensures ok { IfOk result (λ response. AnswersWith M.written M.meaning (Ok message.now) response) }
-    ensures err { IfErr result (IsUnanswered M.written M.E.is_no_memory M.E.output (Ok message.now)) }
+    ensures ok { IfOk result
+        (λ response. AnswersWith M.written M.meaning (Ok message.now) response) }
+    ensures err { IfErr result
+        (IsUnanswered M.written M.E.is_no_memory M.E.output (Ok message.now)) }
 {
     match message.encode(alloc) {
         Ok(payload) => {

@@ -11,7 +11,7 @@ use std::collections::BTreeMap;
 use ttrpc_proto::{Error, KeyValue, Result};
 use ttrpc_wire::{Text, TryClone};
 
-/// The metadata that pairs are: each key with its values, in order.
+/// Collects pairs to metadata: each key with its values, in order.
 pub fn from_pb(alloc: Global, kvs: &[KeyValue]) -> Result<BTreeMap<String, Vec<String>>>
     ensures ok { IfOk result (λ metadata. (key : List ℕ)
         → texts_of (seen metadata.entries) key ≡ some_texts (values_at kvs.now key)) }
@@ -26,11 +26,11 @@ pub fn from_pb(alloc: Global, kvs: &[KeyValue]) -> Result<BTreeMap<String, Vec<S
     Ok(metadata)
 }
 
-/// The pairs of metadata: one for each text, by rising keys.
+/// Converts metadata to pairs: one for each text, by rising keys.
 pub fn to_pb(alloc: Global, kvs: BTreeMap<String, Vec<String>>) -> Result<Vec<KeyValue>>
     ensures ok { IfOk result (λ pairs. pairs.items ≡ pairs_of (seen kvs.entries)) }
 
-    // So `from_pb` of these gives the metadata without the keys that have no text.
+    // So `from_pb` of these pairs gives the metadata without the keys that have no text.
     ensures again { IfOk result (λ pairs. (key : List ℕ)
         → values_at pairs.items key ≡ unwrap_or (texts_of (seen kvs.entries) key) []) }
     ensures rising { IsStrictlySortedBy string_cmp (keys_of kvs.entries) }
@@ -40,7 +40,7 @@ pub fn to_pb(alloc: Global, kvs: BTreeMap<String, Vec<String>>) -> Result<Vec<Ke
     all_pairs(pairs, kvs)
 }
 
-/// A pair for each text of a map, behind those that there are.
+/// Appends a pair for each text of a map.
 fn all_pairs(mut pairs: Vec<KeyValue>, kvs: BTreeMap<String, Vec<String>>) -> Result<Vec<KeyValue>>
     requires { pairs.items ≡ [] }
     ensures ok { IfOk result (λ all. all.items ≡ pairs_of (seen kvs.entries)) }
@@ -52,9 +52,10 @@ fn all_pairs(mut pairs: Vec<KeyValue>, kvs: BTreeMap<String, Vec<String>>) -> Re
     Ok(pairs)
 }
 
-/// A pair for each text of a key, behind those that there are.
+/// Appends a pair for each text of a key.
 fn push_pairs(pairs: &mut Vec<KeyValue>, key: &Text, texts: Vec<String>) -> Result<()>
-    ensures ok { OnOk result (pairs.new.items ≡ pairs.old.items ++ pairs_at key.now (texts_in texts)) }
+    ensures ok { OnOk result
+        (pairs.new.items ≡ pairs.old.items ++ pairs_at key.now (texts_in texts)) }
     ensures only_memory { IfErr result (λ e. e ≡ Error.NoMemory) }
 {
     for text in texts {
@@ -65,14 +66,15 @@ fn push_pairs(pairs: &mut Vec<KeyValue>, key: &Text, texts: Vec<String>) -> Resu
     Ok(())
 }
 
-/// One more text for a key. After an error nothing has changed.
+/// Adds a text for a key. After an error nothing has changed.
 pub(crate) fn push(
     alloc: Global,
     metadata: &mut BTreeMap<String, Vec<String>>,
     key: String,
     value: String,
 ) -> Result<()>
-    ensures ok { OnOk result (Adds (seen metadata.old.entries) (string_bytes key) (string_bytes value) (seen metadata.new.entries)) }
+    ensures ok { OnOk result (Adds (seen metadata.old.entries) (string_bytes key)
+        (string_bytes value) (seen metadata.new.entries)) }
     ensures only_memory { IfErr result (λ e. e ≡ Error.NoMemory) }
     ensures err { OnErr result (seen metadata.new.entries ≡ seen metadata.old.entries) }
 {

@@ -5,24 +5,24 @@ use Rattle.ttrpc_pair.specs.Types.{IsAbove, MESSAGE_TYPE_REQUEST}
 use Rattle.ttrpc_pair.specs.Net.{Halves, Net}
 use Rattle.ttrpc_world_trace.specs.Flight.{AreInFlight, AreLinked, Flying}
 
--- whether a flight is a request
+-- Returns true if a frame in flight is a request.
 abbrev pub is_request : Flying → Bool
 is_request x = nat_eq x.frame.message.header.type_ MESSAGE_TYPE_REQUEST
 
--- which request is the newest behind a flight of this id, by whether it is one
+-- Returns the id of the newest request after a frame of this id. The first argument is true if the frame is a request.
 abbrev pub newest_behind : Bool → ℕ → Option ℕ → Option ℕ
 newest_behind true k newest = Some k
 newest_behind false k newest = newest
 
--- The ids of the requests among these flights rise, from above that of the newest request to below this id.
+-- Holds if the ids of the requests among these frames rise, from above the id of the newest request to below the id `next`.
 abbrev pub RequestsRise : Option ℕ → List Flying → ℕ → Type 0
 RequestsRise newest [] next = IsAbove next newest
 RequestsRise newest (x ∷ xs) next =
     let k = x.frame.message.header.stream_id in
     (is_request x ≡ true → IsAbove k newest) × RequestsRise (newest_behind (is_request x) k newest) xs next
 
--- In flight to the server are these frames, as bytes and as seals, and their requests rise from above the newest that it has
--- seen to below the client's next.
+-- Holds if the frames `transit` and `queued` are in flight to the server, as bytes and as seals, and the ids of their requests rise.
+-- The ids are above that of the newest request that the server has seen, and below the client's next id.
 pub record RequestsInFlight {CO CI SO SI : Type 0} (c : Halves CO CI) (s : Halves SO SI) (w : Net CO CI SO SI) : Type 0 where
   pub transit : List Flying
   pub queued : List Flying

@@ -1,4 +1,4 @@
--- The words that the headline is said in, in one list.
+-- The definitions that the headline uses, in one list.
 -- Source: this project's.
 pub use Rattle.ttrpc_world_trace.specs.declared.events.Entry.{Entry}
 pub use Rattle.ttrpc_world_trace.specs.Headline.{IsTold}

@@ -1,4 +1,4 @@
-//! What holds of every run of one client and one server over two byte pipes, as laws.
+//! The laws of every run of one client and one server over two byte pipes.
 
 pub mod laws;
 pub mod whole;

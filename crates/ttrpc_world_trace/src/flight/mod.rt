@@ -1,3 +1,3 @@
-//! Frames in flight from one core to another: laws on their bytes, on their seals, and on what there is of one stream.
+//! Laws of the frames in flight from one core to another: of their bytes, of their seals, and of the frames of one stream.
 
 pub mod laws;
