@@ -1,4 +1,5 @@
--- The messages of the method `Hello`: what one more field means, the fields that are written, and that these mean the message.
+-- The messages of the method `Hello`: the effect of one more field, the fields that are written, and that these mean
+-- the message.
 -- Source: this project's.
 use Rattle.std.specs.Prelude.{◌≡◌, ℕ, ◌<◌, ◌^◌, ◌-◌, List, [], length, Option, Some, refl}
 use Rattle.std.specs.List.{AllByRecursion}
@@ -13,9 +14,9 @@ use Rattle.ttrpc_wire.proofs.Written.{delimited_fit, fold_delimited}
 use Rattle.greeter.specs.declared.messages.HelloRequest.{HelloRequest}
 use Rattle.greeter.specs.declared.messages.HelloReply.{HelloReply}
 
--- ---- who is to be greeted: 1 name
+-- ---- the name that is to be greeted: 1 name
 
--- the `HelloRequest` of no fields
+-- the `HelloRequest` without fields
 abbrev pub empty_request : HelloRequest
 empty_request = record { name = [] }
 
@@ -43,7 +44,7 @@ request_fits m short = delimited_fit 1 m.name (omega arith) (omega arith) short
 
 -- ---- the greeting: 1 greeting
 
--- the `HelloReply` of no fields
+-- the `HelloReply` without fields
 abbrev pub empty_reply : HelloReply
 empty_reply = record { greeting = [] }
 

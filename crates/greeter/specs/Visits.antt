@@ -1,4 +1,5 @@
--- The reply of the method `Visits`: what one more field means, the fields that are written, and that these mean the message.
+-- The reply of the method `Visits`: the effect of one more field, the fields that are written, and that these mean the
+-- message.
 -- Source: this project's.
 use Rattle.std.specs.Prelude.{◌≡◌, ◌<◌, ◌^◌, ◌-◌, List, [], ◌∷◌, ◌++◌, length, Option, Some, refl, ℕ, ℤ, pos, FitsSigned}
 use Rattle.std.specs.Int.{w64}
@@ -15,7 +16,7 @@ use Rattle.ttrpc_proto.specs.Messages.{IsKeyValue, empty_key_value, key_value_st
 use Rattle.ttrpc_proto.specs.Laws.{key_value_again, key_value_fits}
 use Rattle.greeter.specs.declared.visits.VisitsReply.{VisitsReply}
 
--- the `VisitsReply` of no fields
+-- the `VisitsReply` without fields
 abbrev pub empty_visits : VisitsReply
 empty_visits = record { token = []; count = pos 0; languages = [] }
 
@@ -46,7 +47,7 @@ pub record IsVisits (m : VisitsReply) : Type 0 where
   pub count : FitsSigned w64 m.count
   pub languages : AllByRecursion IsKeyValue m.languages
 
--- fields whose bytes are fewer than 2 ^ 64 - 1
+-- fields with fewer than 2 ^ 64 - 1 bytes
 abbrev pub AreShort : List Field → Type 0
 AreShort fs = length (fields_bytes fs) < 2 ^ 64 - 1
 

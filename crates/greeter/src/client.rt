@@ -29,7 +29,7 @@ impl<R: Host> GreeterClient<R> {
         Ok(reply)
     }
 
-    /// Another client of the same connection, for another thread.
+    /// Returns another client of the same connection, for another thread.
     pub fn try_clone(&self) -> Result<GreeterClient<R>> {
         let client = self.client.try_clone()?;
         Ok(GreeterClient { client })

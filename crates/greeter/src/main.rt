@@ -1,4 +1,5 @@
-//! A service of two methods, and a client that calls it: both in this process, with a socket at a path between them.
+//! A service with two methods, and a client that calls it. Both are in this process, with a socket at a path between
+//! them.
 #![tactic(auto)]
 
 mod client;
@@ -22,7 +23,7 @@ const PATH: &str = "greeter.sock";
 
 const ADDRESS: &str = "unix://greeter.sock";
 
-/// A context of at most five seconds, which asks for German.
+/// Returns a context with a timeout of five seconds, which asks for German.
 fn german(alloc: Global) -> Result<Context> {
     let mut context = with_duration(alloc, Duration::from_secs(5))?;
     let key = String::from_str(alloc, "language")?;
@@ -31,13 +32,13 @@ fn german(alloc: Global) -> Result<Context> {
     Ok(context)
 }
 
-/// A request with this name.
+/// Returns a request with this name.
 fn request_of(alloc: Global, name: &str) -> Result<HelloRequest> {
     let name = Text::from_str(alloc, name)?;
     Ok(HelloRequest { name })
 }
 
-/// Calls the service with this name, and prints what came of it.
+/// Calls `Hello` with this name, and prints the result.
 fn greet<R: Host + Print>(
     rt: &R,
     client: &GreeterClient<R>,
@@ -48,7 +49,7 @@ fn greet<R: Host + Print>(
     tell(rt, client.hello(context, &request))
 }
 
-/// Prints what came of a call.
+/// Prints the result of a call.
 fn tell<R: Print>(rt: &R, answer: Result<HelloReply>) -> Result<()> {
     let printed = match answer {
         Ok(reply) => println!(rt; "{}", reply.greeting),
@@ -61,12 +62,12 @@ fn tell<R: Print>(rt: &R, answer: Result<HelloReply>) -> Result<()> {
     printed.map_err(fault)
 }
 
-/// Output that fails.
+/// Returns the error of output that failed.
 fn fault(error: io::Error) -> Error {
     Error::Nix(error.kind())
 }
 
-/// Greets two at the same time, in two threads, and prints what came of it.
+/// Greets two names at the same time, in two threads, and prints the results.
 fn greet_two<R: Runtime + Print>(rt: &R, client: &GreeterClient<R>) -> Result<()> {
     let alloc = rt.alloc();
     let (ada, bob) = (request_of(alloc, "Ada")?, request_of(alloc, "Bob")?);
@@ -80,7 +81,7 @@ fn greet_two<R: Runtime + Print>(rt: &R, client: &GreeterClient<R>) -> Result<()
     tell(rt, second)
 }
 
-/// Prints who was greeted so far.
+/// Prints each greeted name with its language, and the number of greetings.
 fn tell_visits<R: Host + Print>(rt: &R, client: &GreeterClient<R>) -> Result<()> {
     let visits = client.visits(Context::new(rt.alloc()), &VisitsRequest {})?;
     for visit in visits.languages.as_slice() {
@@ -91,7 +92,7 @@ fn tell_visits<R: Host + Print>(rt: &R, client: &GreeterClient<R>) -> Result<()>
 
 fn main(rt: HostRuntime) -> Result<()> {
     let alloc = rt.alloc();
-    // The file of a socket stays behind when its server ends.
+    // The file of a socket remains when its server ends.
     let _ = fs::remove_file(&rt, PATH);
     let mut server = Server::new(rt.clone()?)?
         .bind(ADDRESS, true)?

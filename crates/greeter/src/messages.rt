@@ -1,11 +1,11 @@
-//! The messages of the method `Hello`. Each has one field, a text of number 1.
+//! The messages of the method `Hello`. Each has one field, a text with the number 1.
 
 use std::alloc::{AllocError, Global};
 use ttrpc::proto::members::{delimited_len, put_delimited, text_from};
 use ttrpc::proto::{Text, TryClone, WireMessage};
 use ttrpc::wire::{CodecError, Field, FieldNumber, Value};
 
-/// Who is to be greeted.
+/// The name that is to be greeted.
 #[derive(Drop)]
 pub struct HelloRequest {
     pub name: Text,

@@ -1,4 +1,4 @@
-//! The service: what it does, and how its methods are reached.
+//! The service: its methods, and the handlers that call them.
 
 use crate::messages::{HelloReply, HelloRequest};
 use crate::visits::{VisitsReply, VisitsRequest};
@@ -14,12 +14,12 @@ use ttrpc::{Code, MethodHandler, Request, Result, TtrpcContext, request_handler}
 /// The service `example.Greeter`.
 #[derive(Drop)]
 struct Greeter {
-    /// Who was greeted so far.
+    /// The greetings so far.
     visits: Mutex<VisitsReply>,
 }
 
 impl Greeter {
-    /// Greets by name, in German where the metadata names a language. An empty name is refused.
+    /// Returns a greeting with the name. It is in German if the metadata has a `language`. An empty name is refused.
     fn hello<R: Host>(
         &self,
         ctx: &TtrpcContext<R, Plain, Plain>,
@@ -42,7 +42,7 @@ impl Greeter {
         })
     }
 
-    /// Notes who was greeted in which language. After an error nothing has changed.
+    /// Notes a greeted name and its language. After an error nothing has changed.
     fn note<R: Host>(&self, rt: &R, name: Text, language: &str) -> Result<()> {
         let language = Text::from_str(rt.alloc(), language)?;
         let mut visits = self.visits.lock(rt);
@@ -57,7 +57,7 @@ impl Greeter {
         Ok(())
     }
 
-    /// Tells who was greeted so far.
+    /// Returns the greetings so far.
     fn visits<R: Host>(
         &self,
         ctx: &TtrpcContext<R, Plain, Plain>,
@@ -67,7 +67,7 @@ impl Greeter {
     }
 }
 
-/// Which method of the service is called.
+/// A method of the service.
 #[derive(Clone, Copy)]
 enum Method {
     Hello,
@@ -101,7 +101,7 @@ const PATHS: &[(&str, Method)] = &[
     ("/example.Greeter/Visits", Method::Visits),
 ];
 
-/// The methods of the service, each under its path.
+/// Returns the handlers of the service, each with its path.
 pub fn methods(alloc: Global) -> Result<BTreeMap<String, GreeterMethod>> {
     let visits = Mutex::new(VisitsReply::new(alloc));
     let greeter = Arc::new(alloc, Greeter { visits })?;

@@ -1,4 +1,5 @@
-//! The messages of the method `Visits`: a request of no fields, and a reply of bytes, a number and a list of messages.
+//! The messages of the method `Visits`: a request without fields, and a reply with bytes, a number and a list of
+//! messages.
 
 use std::alloc::{AllocError, Global};
 use ttrpc::proto::members::{
@@ -7,7 +8,7 @@ use ttrpc::proto::members::{
 use ttrpc::proto::{Blob, Codec, KeyValue, Sequence, TryClone, WireMessage};
 use ttrpc::wire::{CodecError, Field, FieldNumber, Value, int64_to_varint, varint_to_int64};
 
-/// Asks for the visits so far.
+/// Asks for the greetings so far.
 #[derive(Drop)]
 pub struct VisitsRequest {}
 
@@ -51,14 +52,14 @@ impl WireMessage for VisitsRequest {
     ghost fits = { λ _ _ _. tt };
 }
 
-/// Who was greeted so far.
+/// The greetings so far.
 #[derive(Drop)]
 pub struct VisitsReply {
     /// Changes with each greeting.
     pub token: Blob,
-    /// How many greetings there were.
+    /// The number of greetings.
     pub count: i64,
-    /// Each name that was greeted, with the language.
+    /// Each greeted name, with its language.
     pub languages: Sequence<KeyValue>,
 }
 

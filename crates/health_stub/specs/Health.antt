@@ -1,4 +1,4 @@
--- What a table says of a name, and what the service demo.Health answers to a request for a status.
+-- The statuses of a name in a table, and the answers of the service demo.Health to a request for a status.
 -- Source: this project's.
 use Rattle.std.specs.Prelude.{ℕ, ◌-◌, List, [], ◌++◌, length, codes, ℤ, Option, Some, None, Result, Ok, Err, pos, slice_get, unwrap_or}
 use Rattle.std.specs.BTreeMap.{get_by_text}
@@ -51,7 +51,7 @@ unreadable_status = status_of UNKNOWN (codes "unreadable request")
 abbrev pub refusal : Status → Response
 refusal status = record { status = Some status; payload = [] }
 
--- the response that tells a status of a service
+-- the response with a status of a service
 abbrev pub telling : ℤ → Response
 telling status = record { status = Some empty_status; payload = response_bytes (record { status = status }) }
 
@@ -71,7 +71,7 @@ asked_of table None = Err unreadable_status
 abbrev pub watch_of : HealthTable → List ℕ → Result (List ℤ) Status
 watch_of table bytes = asked_of table (request_in bytes)
 
--- the last of some statuses, of which a table has at least one; of none it is 0
+-- the last of some statuses; a table has at least one for each name, and without any it is 0
 abbrev pub last_of : List ℤ → ℤ
 last_of list = unwrap_or (slice_get list (length list - 1)) (pos 0)
 

@@ -1,4 +1,5 @@
--- What is reported of a run, by its trace alone: the answers to the jobs of `Check`, and the statuses that its callers were told.
+-- The report of a run, by its trace alone: the answers to the jobs of `Check`, and the statuses that its callers
+-- received.
 -- Source: this project's.
 use Rattle.std.specs.Prelude.{◌≡◌, ◌≢◌, ℕ, List, codes, map, All, Any, Contains, Option, Some, None, Ok, unwrap_or}
 use Rattle.std.specs.List.Sorted.{IsStrictlyIncreasing}
@@ -57,8 +58,8 @@ pub record IsCheckCall (trace : List Entry) (id : ℕ) (request : Request) : Typ
 abbrev pub WasTold : List Entry → ℕ → Response → Type 0
 WasTold trace id response = Contains trace (record { event = Outcome id; reply = Given (Some (Ok response)) })
 
--- A call's status in the list: the call is one of `Check` whose outcome was Ok; the value is what the payload of that outcome
--- means; and its status is the table's last for the name in that call's own request.
+-- An entry of the list. The call is one of `Check`, and its outcome was Ok. The value is the decoded payload of that
+-- outcome. Its status is the table's last for the name in that call's own request.
 pub record IsOfCall (table : HealthTable) (trace : List Entry) (id : ℕ) (value : HealthCheckResponse) : Type 0 where
   pub request : Request
   pub response : Response
@@ -67,7 +68,7 @@ pub record IsOfCall (table : HealthTable) (trace : List Entry) (id : ℕ) (value
   pub decoded : response_in response.payload ≡ Some value
   pub status : status_asked table request ≡ Some value.status
 
--- THE LIST: by rising id, every call of `Check` whose outcome is Ok, and no other.
+-- THE LIST: by rising id, every call of `Check` with an Ok outcome, and no other.
 pub record IsListed (table : HealthTable) (trace : List Entry) (list : List (ℕ × HealthCheckResponse)) : Type 0 where
   pub rising : IsStrictlyIncreasing (map (λ x. x.0) list)
   pub every : (id : ℕ) (request : Request) (response : Response) → IsCheckCall trace id request → WasTold trace id response → Contains (map (λ x. x.0) list) id

@@ -1,4 +1,4 @@
--- What is found out by going over the entries of a trace.
+-- The findings of a pass over the entries of a trace.
 -- Source: this project's.
 use Rattle.std.specs.Prelude.{◌≡◌, ℕ, ℤ, List, map, All, Contains, Option, None, Some, Ok}
 use Rattle.std.specs.List.Sorted.{IsStrictlyIncreasing}

@@ -1,4 +1,4 @@
-//! What the service answers to a request for a status.
+//! The answers of the service to a request for a status.
 ghost use Rattle.std.specs.Prelude.{◌≡◌, ◌⊎◌, ℤ, IfErr, IfOk, Some, Ok, Err};
 ghost use Rattle.ttrpc_proto.specs.declared.error.Error.{Error as AnError};
 ghost use Rattle.ttrpc_proto.specs.declared.messages.Status.{Status as AStatus};
@@ -12,12 +12,14 @@ use ttrpc::proto::{Blob, Codec, WireMessage};
 use ttrpc::wire::CodecError;
 use ttrpc::{Code, Error, Request, Response, Result, Status};
 
-/// Returns the response of `Check` to a request: a status that is present and empty, with the last status of the name as
-/// payload; NOT_FOUND if the name isn't there; UNKNOWN if the payload means no request. The only error is `NoMemory`.
+/// Returns the response of `Check` to a request. Its status is present and empty, and its payload is the last status of
+/// the name. The status is NOT_FOUND instead if the name isn't there, and UNKNOWN if the payload is no request. The
+/// only error is `NoMemory`.
 pub fn check(table: &HealthTable, request: &Request) -> Result<Response>
     ensures ok { IfOk result (λ response. response ≡ check_of table.now request.now) }
     // The payload means the status again.
-    ensures again { IfOk result (λ response. (status : ℤ) → status_asked table.now request.now ≡ Some status
+    ensures again { IfOk result (λ response. (status : ℤ)
+        → status_asked table.now request.now ≡ Some status
         → response_in response.payload ≡ Some (record { status = status })) }
     ensures refused { IfErr result (λ error. error ≡ AnError.NoMemory) }
 {
@@ -37,7 +39,8 @@ pub fn check(table: &HealthTable, request: &Request) -> Result<Response>
 pub fn watch<'a>(table: &'a HealthTable, bytes: &[u8]) -> Result<&'a [i32]>
     ensures ok { IfOk result (λ list. watch_of table.now bytes.now ≡ Ok list.now) }
     ensures refused { IfErr result (λ error. (error ≡ AnError.NoMemory)
-        ⊎ ((status : AStatus) × (watch_of table.now bytes.now ≡ Err status) × (error ≡ AnError.RpcStatus status))) }
+        ⊎ ((status : AStatus) × (watch_of table.now bytes.now ≡ Err status)
+        × (error ≡ AnError.RpcStatus status))) }
 {
     let alloc = table.alloc;
     let asked = match HealthCheckRequest::decode(alloc, bytes) {
@@ -56,12 +59,13 @@ pub fn watch<'a>(table: &'a HealthTable, bytes: &[u8]) -> Result<&'a [i32]>
     Ok(list)
 }
 
-/// Returns the response that tells a status, whose payload means that status again. No payload is too long, so the only error is
-/// `NoMemory`.
+/// Returns the response with a status as its payload, which decodes to that status again. No payload is too long, so
+/// the only error is `NoMemory`.
 #[tactic(auto, unfolding(crate::specs::Health::response_bytes, crate::specs::Health::response_in))]
 fn telling(alloc: Global, status: i32) -> Result<Response>
     ensures ok { IfOk result (λ response. response ≡ telling status) }
-    ensures again { IfOk result (λ response. response_in response.payload ≡ Some (record { status = status })) }
+    ensures again { IfOk result
+        (λ response. response_in response.payload ≡ Some (record { status = status })) }
     ensures refused { IfErr result (λ error. error ≡ AnError.NoMemory) }
 {
     let response = HealthCheckResponse { status };
@@ -70,7 +74,7 @@ fn telling(alloc: Global, status: i32) -> Result<Response>
     Ok(Response { status, payload })
 }
 
-/// Reads a response. Bytes that mean none, which `check` never gives, are told as `NoMemory`, too.
+/// Reads a response. Bytes that are no response give `NoMemory`, too, but `check` never returns such bytes.
 #[tactic(auto, unfolding(crate::specs::Health::response_in))]
 pub fn response_in(alloc: Global, bytes: &[u8]) -> Result<HealthCheckResponse>
     ensures ok { IfOk result (λ response. response_in bytes.now ≡ Some response) }

@@ -1,4 +1,4 @@
-//! A client of `demo.Health`, whose calls are polled.
+//! A client of `demo.Health` with calls that are polled.
 use crate::messages::{HealthCheckRequest, HealthCheckResponse};
 use ttrpc::asynchronous::{
     Client, ClientCall, ClientOpening, ClientStreamReceiver, Timed, call_of, open_with,

@@ -1,5 +1,6 @@
-//! The service `demo.Health`, which tells the statuses of services by a table: its messages, what it answers, and a run of one
-//! client and one server whose callers are proved to be told the table's statuses. Handlers and a client are for polled ends.
+//! The service `demo.Health`, which gives the statuses of services by a table. The crate has its messages, its answers,
+//! handlers and a client for polled ends, and a run of one client and one server. The callers of the run are proved to
+//! receive the table's statuses.
 #![tactic(auto)]
 
 mod answers;

@@ -1,4 +1,4 @@
-//! A run of one client and one server, and what its callers were told of the statuses of a table.
+//! A run of one client and one server, and the statuses of a table that its callers received.
 ghost use Rattle.std.specs.Prelude.{◌≡◌, ◌≢◌, List, Any, Option, Some, codes, map, true, IfErr, IfOk};
 ghost use Rattle.std.specs.Option.{option_map};
 ghost use Rattle.std.specs.Bool.{OnFalse, OnTrue};
@@ -27,12 +27,12 @@ use ttrpc::cores::server::Job;
 use ttrpc::cores::world::{Entry, Event, World};
 use ttrpc::security_extension::{InboundTransform, OutboundTransform};
 
-/// Calls, by rising id, each with the status that its caller was told.
+/// Calls, by rising id, each with the status that its caller received.
 pub type Statuses = Vec<(CallId, HealthCheckResponse)>;
 
-/// Lets these events happen to a client and a server, and returns the statuses that the callers of `Check` were told, by rising
-/// id. `Check` of `demo.Health` is a method of the server. Returns `None` if an accepted answer to a job of `Check` isn't Ok of the
-/// response that `check` gives to the job's request. The only error is `NoMemory`.
+/// Lets these events happen to a client and a server, and returns the statuses that the callers of `Check` received, by
+/// rising id. `Check` of `demo.Health` is a method of the server. Returns `None` if an accepted answer to a job of
+/// `Check` isn't Ok of the response that `check` gives to the job's request. The only error is `NoMemory`.
 pub fn run_health<CO, CI, SO, SI>(
     alloc: Global,
     world: World<CO, CI, SO, SI>,
@@ -48,10 +48,12 @@ where
     requires fresh { IsFresh
         (halves CO.OutboundTransform CI.InboundTransform)
         (halves SO.OutboundTransform SI.InboundTransform) world }
-    requires is_method { has_method world.server.state.services (codes "demo.Health") (codes "Check") ≡ true }
-    // Of a trace, which is a run of this world with these events: None exactly if a job of `Check` was answered otherwise than by
-    // the table; else, by rising id, each call of `Check` whose outcome is Ok and no other, with the decoded payload of that
-    // outcome, whose status is the table's last for the name in that call's own request.
+    requires is_method { has_method world.server.state.services (codes "demo.Health")
+        (codes "Check") ≡ true }
+    // There is a trace, which is a run of this world with these events. The result is `None` exactly if a job of
+    // `Check` was answered otherwise than by the table. Else it has, by rising id, each call of `Check` with an Ok
+    // outcome, and no other. Each call has the decoded payload of its outcome, with the table's last status for the
+    // name in that call's own request.
     ensures report { IfOk result (λ answer. (trace : List AnEntry) × (last : Net _ _ _ _)
         × (map AnEntry.event trace ≡ events.items)
         × Runs
@@ -65,10 +67,11 @@ where
     report(alloc, table, trace.as_slice())
 }
 
-/// Returns the statuses that the callers of `Check` were told, by rising id; none if a job of `Check` was answered otherwise
-/// than by the table. The only error is `NoMemory`.
+/// Returns the statuses that the callers of `Check` received, by rising id. Returns `None` if a job of `Check` was
+/// answered otherwise than by the table. The only error is `NoMemory`.
 fn report(alloc: Global, table: &HealthTable, trace: &[Entry]) -> Result<Option<Statuses>>
-    ensures found { IfOk result (λ report. IsFound table.now trace.now (option_map (λ list. list.items) report)) }
+    ensures found { IfOk result
+        (λ report. IsFound table.now trace.now (option_map (λ list. list.items) report)) }
     ensures refused { IfErr result (λ error. error ≡ AnError.NoMemory) }
 {
     if is_answered_otherwise(table, trace)? {
@@ -80,7 +83,8 @@ fn report(alloc: Global, table: &HealthTable, trace: &[Entry]) -> Result<Option<
 
 /// Returns whether an accepted answer to a job of `Check` isn't Ok of the table's response. The only error is `NoMemory`.
 fn is_answered_otherwise(table: &HealthTable, trace: &[Entry]) -> Result<bool>
-    ensures yes { IfOk result (λ otherwise. OnTrue otherwise (IsAnsweredOtherwise table.now trace.now)) }
+    ensures yes { IfOk result
+        (λ otherwise. OnTrue otherwise (IsAnsweredOtherwise table.now trace.now)) }
     ensures no { IfOk result (λ otherwise. OnFalse otherwise (AreAnsweredSo table.now trace.now)) }
     ensures refused { IfErr result (λ error. error ≡ AnError.NoMemory) }
 {
@@ -97,7 +101,8 @@ fn is_answered_otherwise(table: &HealthTable, trace: &[Entry]) -> Result<bool>
 /// Returns whether an accepted answer to this job isn't Ok of the table's response. The only error is `NoMemory`.
 fn has_other_answer(table: &HealthTable, trace: &[Entry], job: &Job) -> Result<bool>
     ensures yes { IfOk result (λ other. OnTrue other
-        ((response : Option AResponse) × Any (AnswersWith job.now.id response) trace.now × (response ≢ Some (check_of table.now job.now.request)))) }
+        ((response : Option AResponse) × Any (AnswersWith job.now.id response) trace.now
+        × (response ≢ Some (check_of table.now job.now.request)))) }
     ensures no { IfOk result (λ other. OnFalse other (IsAnsweredSo table.now trace.now job.now)) }
     ensures refused { IfErr result (λ error. error ≡ AnError.NoMemory) }
 {
@@ -110,7 +115,8 @@ fn has_other_answer(table: &HealthTable, trace: &[Entry], job: &Job) -> Result<b
     Ok(false)
 }
 
-/// Returns what the callers of `Check` were told whose outcome is Ok, each under the id of its call. The only error is `NoMemory`.
+/// Returns the statuses of the calls of `Check` with an Ok outcome, each by the id of its call. The only error is
+/// `NoMemory`.
 fn statuses_told(alloc: Global, trace: &[Entry]) -> Result<BTreeMap<CallId, HealthCheckResponse>>
     ensures ordered { IfOk result (λ told. IsOrdered nat_cmp told) }
     ensures told { IfOk result (λ told. AreTold trace.now told.entries) }
@@ -127,7 +133,7 @@ fn statuses_told(alloc: Global, trace: &[Entry]) -> Result<BTreeMap<CallId, Heal
     Ok(told)
 }
 
-/// Returns whether a call of `Check` was made under this id.
+/// Returns whether a call of `Check` was made with this id.
 fn is_check_call(trace: &[Entry], id: CallId) -> bool
     ensures yes { OnTrue result ((request : ARequest) × IsCheckCall trace.now id request) }
     ensures no { OnFalse result ((request : ARequest) → ¬ (IsCheckCall trace.now id request)) }

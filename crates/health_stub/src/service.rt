@@ -32,7 +32,8 @@ impl MethodHandler for HealthHandler {
 
     fn handler(&self, _ctx: TtrpcContext, req: Request) -> Ready<Result<Response>>
         ensures can { IsSome result.0 }
-        ensures checks { IsSomeAnd result.0 (λ given. IfOk given (λ response. response ≡ check_of (arc_value self.now.table) req)) }
+        ensures checks { IsSomeAnd result.0
+            (λ given. IfOk given (λ response. response ≡ check_of (arc_value self.now.table) req)) }
     {
         ready(check(&self.table, &req))
     }
@@ -61,7 +62,7 @@ type Sender<L> = ServerStreamSender<HealthCheckResponse, L>;
 pub struct Watching<L: StreamLine> {
     table: Arc<HealthTable, Global>,
     opening: ServerStreamOpening<Blob, HealthCheckResponse, L>,
-    /// What sends, if the request has come.
+    /// The sender, if the request has come.
     sender: Option<Sender<L>>,
     /// The status that is under way, if one is.
     sending: Option<Sending>,
@@ -120,9 +121,11 @@ pub fn health_services(
     alloc: Global,
     table: HealthTable,
 ) -> Result<BTreeMap<String, Service<HealthHandler, HealthHandler>>>
-    ensures ok { IfOk result (λ services. IsSomeAnd (get_by_text services (codes "demo.Health")) (λ service.
-        IsSomeAnd (get_by_text service.methods (codes "Check")) (λ handler. arc_value handler.table ≡ table)
-        × IsSomeAnd (get_by_text service.streams (codes "Watch")) (λ handler. arc_value handler.table ≡ table))) }
+    ensures ok { IfOk result (λ services. IsSomeAnd (get_by_text services (codes "demo.Health"))
+        (λ service. IsSomeAnd (get_by_text service.methods (codes "Check"))
+        (λ handler. arc_value handler.table ≡ table)
+        × IsSomeAnd (get_by_text service.streams (codes "Watch"))
+        (λ handler. arc_value handler.table ≡ table))) }
     ensures refused { IfErr result (λ error. error ≡ AnError.NoMemory) }
 {
     let table = Arc::new(alloc, table)?;

@@ -35,8 +35,10 @@ impl HealthTable {
         // An empty list is refused; every error is that refusal or want of memory, and changes nothing.
         ensures empty { list.now ≡ [] → IsErr result }
         ensures refused { IfErr result (λ error.
-            ((list.now ≡ []) × (error ≡ AnError.Others (codes "a status list must not be empty"))) ⊎ (error ≡ AnError.NoMemory)) }
-        ensures err { OnErr result ((other : List ℕ) → statuses self.new other ≡ statuses self.old other) }
+            ((list.now ≡ []) × (error ≡ AnError.Others (codes "a status list must not be empty")))
+            ⊎ (error ≡ AnError.NoMemory)) }
+        ensures err { OnErr result
+            ((other : List ℕ) → statuses self.new other ≡ statuses self.old other) }
     {
         if list.is_empty() {
             let text = Text::from_str(self.alloc, "a status list must not be empty")?;

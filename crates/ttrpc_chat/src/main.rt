@@ -1,5 +1,5 @@
-//! `ttrpc-chat`, a program of polled ends. Its words are `serve`, which serves the service `demo.Echo` and its streams, and
-//! `unary`, `chat`, `sum` and `count`, which call one.
+//! `ttrpc-chat`, a program of polled ends. Its command `serve` serves the service `demo.Echo` with its streams. Its
+//! commands `unary`, `chat`, `sum` and `count` call one.
 #![tactic(auto)]
 
 use std::env;
@@ -10,7 +10,7 @@ use std::rt::Env;
 use ttrpc_polled_echo::run;
 use ttrpc_transport::nodelay_from;
 
-/// The words behind the program's name; none where one isn't UTF-8.
+/// Returns the words after the program's name, or no words if one of them isn't UTF-8.
 fn given_words<R: Env + AllocGlobal>(rt: &R) -> Result<Vec<String>> {
     let mut words = Vec::new(rt.alloc());
     match env::args(rt) {
@@ -26,7 +26,7 @@ fn given_words<R: Env + AllocGlobal>(rt: &R) -> Result<Vec<String>> {
 }
 
 fn main(rt: HostRuntime) -> ExitCode {
-    // The check of borrows covers a call whose bounds name types only where these are named here, too.
+    // The borrow check covers a call with types in its bounds only if this function names the types, too.
     let _sockets: Option<(TcpListener, TcpStream)> = None;
     let (mut output, mut errors) = (rt.stdout(), rt.stderr());
     let setting = env::var(&rt, "TTRPC_TCP_NODELAY_ENABLED").ok();

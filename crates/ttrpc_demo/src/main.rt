@@ -1,6 +1,6 @@
-//! `ttrpc-demo`, the program of the project: a server and a client to try by hand. Its words are `answer`, which reads frames
-//! from standard input and writes their answers to standard output, `serve`, `call`, and `loop`, which calls a server of its
-//! own.
+//! `ttrpc-demo`, the program of the project: a server and a client to try by hand. Its commands are `answer`, which
+//! reads frames from standard input and writes their answers to standard output, `serve`, `call`, and `loop`, which
+//! calls its own server.
 #![tactic(auto)]
 
 use std::env;
@@ -12,11 +12,11 @@ use ttrpc_echo::{Outcome, run, tell};
 use ttrpc_proto::{Error, MESSAGE_HEADER_LENGTH, MESSAGE_LENGTH_MAX};
 use ttrpc_transport::nodelay_from;
 
-/// Room for any frame, so that each answer leaves in one write where it is flushed. On a socket that delays small writes the
-/// rest of a frame would wait for the other side's acknowledgement.
+/// Room for any frame, so that each answer leaves in one write when it is flushed. On a socket that delays small
+/// writes, the rest of a frame would wait for the other side's acknowledgement.
 const ROOM: usize = MESSAGE_HEADER_LENGTH + MESSAGE_LENGTH_MAX;
 
-/// The words behind the program's name. Words that aren't UTF-8 are wrong ones.
+/// Returns the words after the program's name. If one of them isn't UTF-8, the words are wrong.
 fn given_words<R: Env + AllocGlobal>(rt: &R) -> Result<Vec<String>, Outcome> {
     let all = match env::args(rt) {
         Ok(all) => all,
@@ -33,7 +33,7 @@ fn given_words<R: Env + AllocGlobal>(rt: &R) -> Result<Vec<String>, Outcome> {
 }
 
 fn main(rt: HostRuntime) -> ExitCode {
-    // The check of borrows covers a call whose bounds name types only where these are named here, too.
+    // The borrow check covers a call with types in its bounds only if this function names the types, too.
     let _sockets: Option<(TcpListener, TcpStream)> = None;
     let words = match given_words(&rt) {
         Ok(words) => words,

@@ -1,4 +1,4 @@
-//! A server in a thread of its own.
+//! A server in its own thread.
 use crate::program::HealthServer;
 use crate::system::{System, nix};
 use futures::StreamExt;
@@ -12,14 +12,14 @@ use ttrpc_polled::Listener;
 use ttrpc_polled_server::Server;
 use ttrpc_proto::Result;
 
-/// A server's address, and the server's thread, which ends after the connections that it was told to serve.
+/// A server's address, and its thread, which ends after it has served its number of connections.
 #[derive(Drop)]
 pub struct Served {
     pub address: SocketAddr,
     pub thread: JoinHandle<Result<()>>,
 }
 
-/// Serves a table at a free port of this machine, over so many connections.
+/// Starts a server of a table at a free port of this machine, which serves `count` connections.
 pub fn serve_apart<R: System + Threads + Send + 'static>(
     rt: &R,
     table: HealthTable,

@@ -1,8 +1,8 @@
-//! A step beside a connection.
+//! A future that is polled together with a connection.
 use futures::Future;
 use futures::task::{Context, Poll};
 
-/// A step, and a connection that is polled beside it as long as it goes on. It is ready as the step is.
+/// A step, and a connection that is polled together with it until it ends. Ready when the step is.
 #[derive(Drop)]
 pub struct Beside<'a, F, C> {
     pub step: F,

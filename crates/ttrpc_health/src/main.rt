@@ -1,5 +1,5 @@
-//! `ttrpc-health`, a program of the service `demo.Health`. Its words are `serve`, which serves a table of statuses, `check` and
-//! `watch`, which call one, and `loop`, which calls a server of its own.
+//! `ttrpc-health`, a program of the service `demo.Health`. Its commands are `serve`, which serves a table of statuses,
+//! `check` and `watch`, which call one, and `loop`, which calls its own server.
 #![tactic(auto)]
 
 mod apart;
@@ -20,7 +20,7 @@ use std::process::ExitCode;
 use std::rt::Env;
 use ttrpc_transport::nodelay_from;
 
-/// Returns the words behind the program's name; none where one isn't UTF-8.
+/// Returns the words after the program's name, or no words if one of them isn't UTF-8.
 fn given_words<R: Env + AllocGlobal>(rt: &R) -> Result<Vec<String>> {
     let mut words = Vec::new(rt.alloc());
     match env::args(rt) {
@@ -36,7 +36,7 @@ fn given_words<R: Env + AllocGlobal>(rt: &R) -> Result<Vec<String>> {
 }
 
 fn main(rt: HostRuntime) -> ExitCode {
-    // The check of borrows covers a call whose bounds name types only where these are named here, too.
+    // The borrow check covers a call with types in its bounds only if this function names the types, too.
     let _sockets: Option<(TcpListener, TcpStream)> = None;
     let (mut output, mut errors) = (rt.stdout(), rt.stderr());
     let setting = env::var(&rt, "TTRPC_TCP_NODELAY_ENABLED").ok();

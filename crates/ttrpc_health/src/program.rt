@@ -1,4 +1,4 @@
-//! The program at its words.
+//! The program's commands.
 use crate::apart::{Served, serve_apart};
 use crate::site::Site;
 use crate::system::{System, nix};
@@ -16,8 +16,8 @@ const USAGE: &str =
 /// The server of the program.
 pub type HealthServer<R> = Server<R, HealthHandler, HealthHandler>;
 
-/// Does what the words say, and tells on `errors` what went wrong. Whether each write goes out at once is `nodelay`. Returns the
-/// status: 0, 1 at a failure or a refused call, and 2 at wrong words.
+/// Runs the command that the words give, and reports failures on `errors`. With `nodelay`, each write goes out at once.
+/// Returns the status: 0, or 1 at a failure or a refused call, or 2 if the words are wrong.
 pub fn run<R: System + Threads + Send + 'static, W: Write, X: Write>(
     rt: R,
     words: &[String],
@@ -55,7 +55,7 @@ fn tell_usage<X: Write>(errors: &mut X) -> Result<u8> {
     Ok(2)
 }
 
-/// Checks and then watches a name at a server of its own.
+/// Checks and then watches a name at the program's own server.
 fn call_own<R: System + Threads + Send + 'static, W: Write>(
     rt: R,
     name: &str,
@@ -85,7 +85,7 @@ fn call_both<R: System, W: Write>(
     }
 }
 
-/// Makes a server at an address, with the service over this table.
+/// Returns a server at an address, with the service over this table.
 pub fn server_at<R: System>(
     rt: &R,
     handle: &Handle,
@@ -114,7 +114,7 @@ fn serve<R: System, X: Write>(
     Ok(0)
 }
 
-/// Tells where a server listens.
+/// Writes the address where a server listens.
 pub fn tell_address<R: System, X: Write>(server: &HealthServer<R>, errors: &mut X) -> Result<()> {
     if let Some(address) = server.local_addr()? {
         nix(writeln!(errors, "ttrpc-health: listens at tcp://{address}"))?;

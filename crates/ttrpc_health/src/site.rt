@@ -1,4 +1,4 @@
-//! The program's calls, over a connection of their own.
+//! The program's calls, over their own connection.
 use crate::beside::Beside;
 use crate::system::{System, nix};
 use crate::telling::{tell_error, tell_status};
@@ -12,7 +12,7 @@ use ttrpc_polled_client::{Client, ClientStreamReceiver, TcpConnection};
 use ttrpc_proto::{Result, Text};
 use ttrpc_secure::Plain;
 
-/// An event loop, and a connection that is polled on it as long as it isn't over.
+/// An event loop, and a connection that is polled on it until it ends.
 #[derive(Drop)]
 struct Driver<R: System> {
     rt: R,
@@ -20,7 +20,7 @@ struct Driver<R: System> {
     connection: Option<TcpConnection<R, Plain, Plain>>,
 }
 
-/// A client, and what drives its connection.
+/// A client, and the driver of its connection.
 #[derive(Drop)]
 pub struct Site<R: System> {
     driver: Driver<R>,
@@ -49,7 +49,7 @@ impl<R: System> Site<R> {
         Ok(HealthCheckRequest { service })
     }
 
-    /// Calls `Check`, and tells the status, or why there is none. Returns the program's status.
+    /// Calls `Check`, and writes the status, or the error. Returns the program's status.
     pub fn check<W: Write>(&mut self, name: &str, output: &mut W) -> Result<u8> {
         let context = Context::new(self.driver.rt.alloc());
         let call = self.client.check(context, &self.request(name)?);
@@ -62,7 +62,7 @@ impl<R: System> Site<R> {
         }
     }
 
-    /// Opens `Watch`, and tells each status, and why there are no more if they weren't all. Returns the program's status.
+    /// Opens `Watch`, and writes each status, and the error if the stream ends with one. Returns the program's status.
     pub fn watch<W: Write>(&mut self, name: &str, output: &mut W) -> Result<u8> {
         let context = Context::new(self.driver.rt.alloc());
         let opening = self.client.watch(context, &self.request(name)?);
@@ -77,7 +77,7 @@ impl<R: System> Site<R> {
 }
 
 impl<R: System> Driver<R> {
-    /// Does this step, while the connection goes on.
+    /// Runs this step to its end, and polls the connection meanwhile.
     fn done<F: Future>(&mut self, step: F) -> Result<F::Output>
     where
         F::Output: Drop,
@@ -87,7 +87,7 @@ impl<R: System> Driver<R> {
         nix(self.runtime.block_on(&self.rt, Beside { step, connection }))
     }
 
-    /// Receives the next status, and tells it. Returns the program's status if there is none.
+    /// Receives the next status, and writes it. Returns the program's status if there is none.
     fn tell_next<W: Write>(
         &mut self,
         stream: &mut ClientStreamReceiver<HealthCheckResponse, R, Plain, Plain>,

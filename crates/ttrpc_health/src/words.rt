@@ -1,24 +1,24 @@
-//! Which words the program is called by.
+//! The words that the program is called by.
 use health_stub::HealthTable;
 use std::alloc::Global;
 use ttrpc_proto::Result;
 
-/// What the words ask for.
+/// The command that the words give.
 #[derive(Drop)]
 pub enum Asked<'a> {
-    /// To serve this table at an address until the program is killed.
+    /// Serves this table at an address until the program is killed.
     Serves(&'a str, HealthTable),
-    /// To tell the last status of a name, asked at an address.
+    /// Writes the last status of a name, as a server at an address gives it.
     Checks(&'a str, &'a str),
-    /// To tell each status of a name, asked at an address.
+    /// Writes each status of a name, as a server at an address gives it.
     Watches(&'a str, &'a str),
-    /// To tell both of a name, asked at a server of the program's own with this table.
+    /// Writes both for a name, as the program's own server with this table gives them.
     Loops(&'a str, HealthTable),
-    /// Nothing that the program does.
+    /// The words give no command.
     Wrong,
 }
 
-/// Reads what these words ask for. The only error is `NoMemory`.
+/// Reads the command that these words give. The only error is `NoMemory`.
 pub fn read_words(alloc: Global, words: &[String]) -> Result<Asked<'_>> {
     let [first, second, rest @ ..] = words else {
         return Ok(Asked::Wrong);
@@ -39,7 +39,8 @@ pub fn read_words(alloc: Global, words: &[String]) -> Result<Asked<'_>> {
     }
 }
 
-/// Reads the table of these words; none if one of them isn't `NAME=STATUS[,STATUS..]`. The only error is `NoMemory`.
+/// Reads the table of these words. Returns `None` if one of them isn't `NAME=STATUS[,STATUS..]`. The only error is
+/// `NoMemory`.
 fn read_table(alloc: Global, words: &[String]) -> Result<Option<HealthTable>> {
     let mut table = HealthTable::new(alloc);
     for word in words {
@@ -54,7 +55,7 @@ fn read_table(alloc: Global, words: &[String]) -> Result<Option<HealthTable>> {
     Ok(Some(table))
 }
 
-/// Reads statuses that commas part; none if one of them is no `i32`. The only error is `NoMemory`.
+/// Reads statuses with commas between them. Returns `None` if one of them isn't an `i32`. The only error is `NoMemory`.
 fn read_statuses(alloc: Global, list: &str) -> Result<Option<Vec<i32>>> {
     let mut statuses = Vec::new(alloc);
     for text in list.split(',') {

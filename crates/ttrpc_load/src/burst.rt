@@ -1,4 +1,4 @@
-//! Many calls in one write, and when their answers come.
+//! Many calls in one write, and the times of their answers.
 use crate::figures::{Moments, percentile};
 use crate::measuring::Measured;
 use crate::raw::write_all;
@@ -12,8 +12,8 @@ use ttrpc_sync::{Runtime, moment};
 use ttrpc_transport::{ClientConnection, PipeConnection};
 use ttrpc_wire::codec::message::encode;
 
-/// Writes all calls of the load at once, from one connection, and says when the answers came, from the first write on. One
-/// call comes before, so that the server's threads are there.
+/// Writes all calls of the load at once, on one connection, and returns the times of the answers, from the first write
+/// on. One call is made before, so that the server's threads have started.
 pub fn burst<R: Measured + 'static>(
     rt: &R,
     address: &str,
@@ -43,10 +43,10 @@ fn call_alone<R: Measured + 'static>(
     Ok(())
 }
 
-/// The requests of the load, each in its frame, one behind the other.
+/// Returns the requests of the load, each in its frame, one after the other.
 fn requests_of(alloc: Global, load: Load) -> Result<Vec<u8>> {
     let payload = Vec::from_elem(alloc, 7u8, load.bytes)?;
-    // Of what a request may be nothing but memory is wanting.
+    // Encoding this request can fail only if memory is refused.
     let Ok(request) = encode(alloc, &request_of(alloc, payload.as_slice())?) else {
         return Err(Error::NoMemory);
     };
@@ -73,7 +73,7 @@ fn start_writer<R: Runtime>(
     }
 }
 
-/// How long after the start each of so many answers came, in nanoseconds.
+/// Returns the time from the start to each of `count` answers, in nanoseconds.
 fn times_of_answers<R: Measured>(
     rt: &R,
     connection: &PipeConnection,

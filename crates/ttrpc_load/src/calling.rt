@@ -1,4 +1,4 @@
-//! Callers, and how long each of their calls takes.
+//! Callers, and the time of each of their calls.
 ghost use Rattle.std.specs.Prelude.{◌≡◌, length, IfOk};
 
 use std::alloc::Global;
@@ -12,9 +12,9 @@ use ttrpc_sync::{Host, Runtime, moment};
 use ttrpc_sync_client::Client;
 use ttrpc_transport::PipeConnection;
 
-/// What answers a payload with the same bytes.
+/// A peer that answers a payload with the same bytes.
 pub trait Echoes<R: Host> {
-    /// Sends the payload, and waits for its answer. Another answer is an error.
+    /// Sends the payload, and waits for its answer. Any other answer is an error.
     fn echo(&self, rt: &R, payload: &[u8]) -> Result<()>;
 }
 
@@ -31,7 +31,7 @@ impl<R: Host> Echoes<R> for EchoClient<R> {
     }
 }
 
-/// Makes `count` calls, and gives the time that each took, in nanoseconds. Each is counted once it is answered.
+/// Makes `count` calls, and returns the time of each, in nanoseconds. Each answered call is counted in `done`.
 pub fn times_of<R: Host, E: Echoes<R>>(
     rt: &R,
     echo: &E,
@@ -42,7 +42,7 @@ pub fn times_of<R: Host, E: Echoes<R>>(
     ensures { IfOk result (λ times. length times.items ≡ count) }
 {
     let payload = Vec::from_elem(rt.alloc(), 7u8, bytes)?;
-    // All pages of the times are touched first, so that memory stays as it is while calls are made.
+    // All pages of the times are touched first, so that memory doesn't grow during the calls.
     let mut times = Vec::from_elem(rt.alloc(), u64::MAX, count)?;
     for time in times.iter_mut() {
         let start = moment(rt)?;

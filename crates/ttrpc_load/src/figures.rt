@@ -3,7 +3,7 @@ ghost use Rattle.std.specs.Prelude.{◌≡◌, ◌+◌, ◌-◌, ◌*◌, ◌/�
 
 use std::fmt;
 
-/// What was measured. Times are in nanoseconds.
+/// The figures of calls. Times are in nanoseconds.
 #[derive(Clone, Copy, Debug)]
 pub struct Figures {
     pub calls: usize,
@@ -12,7 +12,7 @@ pub struct Figures {
     pub ninety_ninth: u64,
 }
 
-/// How many a second, where so many took so many nanoseconds.
+/// Returns the rate a second of `count` items that took `elapsed` nanoseconds.
 pub fn rate(count: usize, elapsed: u64) -> u128
     ensures { result ≡ (count * 1000000000) / max elapsed 1 }
 {
@@ -31,11 +31,11 @@ impl fmt::Display for Figures {
     }
 }
 
-/// When the answers of calls came that were written at once, in nanoseconds from the first write on.
+/// The times of the answers to calls that were written at once, in nanoseconds from the first write on.
 #[derive(Clone, Copy, Debug)]
 pub struct Moments {
     pub first: u64,
-    /// Behind a tenth of the answers, half of them and nine tenths.
+    /// The times after a tenth of the answers, half of them and nine tenths.
     pub tenth: u64,
     pub half: u64,
     pub ninety: u64,
@@ -53,7 +53,7 @@ impl fmt::Display for Moments {
     }
 }
 
-/// How many items a second went over streams of each kind.
+/// The number of items a second over streams of each kind.
 #[derive(Clone, Copy, Debug)]
 pub struct Rates {
     pub chat: u128,
@@ -68,13 +68,13 @@ impl fmt::Display for Rates {
     }
 }
 
-/// What a measurement tells.
+/// The result of a measurement.
 #[derive(Clone, Copy, Debug)]
 pub enum Told {
     Figures(Figures),
     Moments(Moments),
     Rates(Rates),
-    /// So many clients rested.
+    /// This number of clients rested.
     Rested(usize),
 }
 
@@ -89,9 +89,10 @@ impl fmt::Display for Told {
     }
 }
 
-/// The given percentile of the times, which are in rising order; `None` if there are none.
+/// Returns the given percentile of the times, which are in rising order. Returns `None` if there are none.
 pub fn percentile(times: &[u64], percent: usize) -> Option<u64>
-    ensures some { IfSome result (λ time. time ≡ slice_index times.now ((length times.now * percent + 99) / 100 - 1)) }
+    ensures some { IfSome result
+        (λ time. time ≡ slice_index times.now ((length times.now * percent + 99) / 100 - 1)) }
     ensures none { 0 < percent → percent ≤ 100 → IfNone result (length times.now ≡ 0) }
 {
     let rank = (times.len() as u128 * percent as u128).div_ceil(100);

@@ -1,9 +1,9 @@
-//! What is measured, as the words say it.
+//! The target and the load of a measurement, as the words give them.
 ghost use Rattle.std.specs.Prelude.{◌≡◌, ◌<◌, IfSome};
 
 use ttrpc_load_polled::Load;
 
-/// Whom the calls are made to.
+/// The target of the calls.
 #[derive(Clone, Copy, Debug)]
 pub enum Target<'a> {
     /// A bare echo of this process, with a connection for each caller: the limit of what a server can reach.
@@ -12,20 +12,26 @@ pub enum Target<'a> {
     Server(&'a str),
     /// The same, by one connection to which all calls are written at once.
     Burst(&'a str),
-    /// The same, by a client whose calls are polled on one event loop.
+    /// The same, by a client that polls its calls on one event loop.
     Polled(&'a str),
-    /// The streams of the server at this address, by such a client.
+    /// The streams of the server at this address, by a client that is polled on one event loop.
     Streams(&'a str),
-    /// Nobody: as many such clients as there are calls rest, at the server at this address, or over readers and writers in memory.
+    /// No calls are made. Polled clients rest, with a connection to the server at this address, or over readers and
+    /// writers in memory. The number of calls is the number of clients.
     Rest(Option<&'a str>),
 }
 
-/// The load and its target that the words name: an address or `raw`, calls, callers and bytes; or `burst`, an address, calls
-/// and bytes; or `async` or `stream`, an address, calls or items, callers or streams, and bytes; or `rest`, an address or none, and
-/// how many clients.
-/// There are calls and callers, and the calls' payload has at least one byte.
+/// Returns the load and its target that the words give. The words are one of these:
+///
+/// - an address or `raw`, calls, callers and bytes.
+/// - `burst`, an address, calls and bytes.
+/// - `async` or `stream`, an address, calls or items, callers or streams, and bytes.
+/// - `rest`, an address or none, and the number of clients.
+///
+/// Each number is at least one.
 pub fn load_of(words: &[String]) -> Option<(Target<'_>, Load)>
-    ensures { IfSome result (λ found. (0 < found.1.calls) × (0 < found.1.callers) × (0 < found.1.bytes)) }
+    ensures { IfSome result
+        (λ found. (0 < found.1.calls) × (0 < found.1.callers) × (0 < found.1.bytes)) }
 {
     if let [word, address, calls, callers, bytes] = words {
         let target = match word.as_str() {
@@ -59,7 +65,8 @@ fn rest_of<'a>(
     address: Option<&'a str>,
     clients: &String,
 ) -> Option<(Target<'a>, Load)>
-    ensures { IfSome result (λ found. (0 < found.1.calls) × (0 < found.1.callers) × (0 < found.1.bytes)) }
+    ensures { IfSome result
+        (λ found. (0 < found.1.calls) × (0 < found.1.callers) × (0 < found.1.bytes)) }
 {
     if word.as_str() != "rest" {
         return None;
@@ -73,7 +80,8 @@ fn rest_of<'a>(
 }
 
 fn load_by(calls: &String, callers: usize, bytes: &String) -> Option<Load>
-    ensures { IfSome result (λ load. (0 < load.calls) × (load.callers ≡ callers) × (0 < load.bytes)) }
+    ensures { IfSome result
+        (λ load. (0 < load.calls) × (load.callers ≡ callers) × (0 < load.bytes)) }
 {
     Some(Load {
         calls: count_of(calls)?,

@@ -1,5 +1,5 @@
-//! `ttrpc-load`, which measures a server: it calls `Echo` of `demo.Echo` so many times by so many callers, and tells how many
-//! calls a second were answered, and how long one took.
+//! `ttrpc-load`, which measures a server: a number of callers call `Echo` of `demo.Echo`, and the program reports how
+//! many calls a second were answered, and how long one took.
 #![tactic(auto)]
 
 mod burst;
@@ -17,7 +17,7 @@ use std::process::ExitCode;
 use std::rt::Env;
 use ttrpc_transport::nodelay_from;
 
-/// The words behind the program's name, as far as they are UTF-8 and there is memory for them.
+/// Returns the words after the program's name. Returns `None` if they can't be read, or if memory is refused.
 fn given_words<R: Env + AllocGlobal>(rt: &R) -> Option<Vec<String>> {
     let mut words = Vec::new(rt.alloc());
     for word in env::args(rt).ok()?.skip(1) {
@@ -27,7 +27,7 @@ fn given_words<R: Env + AllocGlobal>(rt: &R) -> Option<Vec<String>> {
 }
 
 fn main(rt: HostRuntime) -> ExitCode {
-    // The check of borrows covers a call whose bounds name types only where these are named here, too.
+    // The borrow check covers a call with types in its bounds only if this function names the types, too.
     let _sockets: Option<(TcpListener, TcpStream)> = None;
     let words = given_words(&rt).unwrap_or(Vec::new(rt.alloc()));
     let setting = env::var(&rt, "TTRPC_TCP_NODELAY_ENABLED").ok();

@@ -1,4 +1,4 @@
-//! One measurement, from its words to its line.
+//! One measurement, from its words to its output.
 ghost use Rattle.std.specs.Prelude.{◌≡◌, if◌then◌else◌, is_ok};
 
 use crate::burst::burst;
@@ -24,7 +24,7 @@ const USAGE: &str =
     "usage: ttrpc-load ADDR CALLS CALLERS BYTES | raw CALLS CALLERS BYTES | burst ADDR CALLS BYTES
        ttrpc-load async ADDR CALLS CALLERS BYTES | stream ADDR ITEMS STREAMS BYTES | rest [ADDR] CLIENTS";
 
-/// What `--help` tells behind the usage.
+/// The output of `--help` after the usage.
 const HELP: &str = "
 Calls Echo of demo.Echo, and tells in a line how it went.
 
@@ -43,17 +43,18 @@ Calls Echo of demo.Echo, and tells in a line how it went.
 Told are calls a second, and of the times of single calls the median and the 99th percentile, in microseconds. Where
 TTRPC_TCP_NODELAY_ENABLED is 1 or true, small writes by TCP go out at once.";
 
-/// What a measurement asks of the system.
+/// The parts of the system that a measurement uses.
 pub trait Measured: Runtime + Looped + Files + Net<Listener = TcpListener, Stream = TcpStream> {}
 
 impl<R: Runtime + Looped + Files + Net<Listener = TcpListener, Stream = TcpStream>> Measured
     for R {}
 
-/// A caller in a thread of its own, which gives the times of its calls.
+/// A caller in its own thread, which returns the times of its calls.
 type Caller = JoinHandle<Result<Vec<u64>>>;
 
-/// Measures what the words say, and tells the figures in a line of `output`. Where `shows` is set, `errors` is a terminal, on
-/// which a line says how far it is. Gives the status: 0, 1 at a failure, and 2 at wrong words.
+/// Runs the measurement that the words give, and writes its figures in a line of `output`. If `shows` is set, `errors`
+/// is a terminal, and a line on it shows the progress. Returns the status: 0, or 1 at a failure, or 2 if the words are
+/// wrong.
 pub fn run<R: Measured + 'static, W: Write, X: Write>(
     rt: &R,
     words: &[String],
@@ -78,7 +79,7 @@ pub fn run<R: Measured + 'static, W: Write, X: Write>(
     }
 }
 
-/// The status of a run that told what it had to.
+/// Returns the status after the output: 0 if it was written, and otherwise 1.
 fn status_of(written: io::Result<()>) -> u8
     ensures { result ≡ (if is_ok written then 0 else 1) }
 {
@@ -114,7 +115,7 @@ fn measure<R: Measured + 'static, X: Write>(
     Ok(Told::Figures(figures_of(load, elapsed, times)))
 }
 
-/// So many clients at rest. It doesn't end by itself.
+/// Holds `count` clients at rest. It doesn't end by itself.
 fn rest_all<R: Looped>(rt: &R, address: Option<&str>, count: usize, nodelay: bool) -> Result<Told> {
     match address {
         Some(address) => rest_at(rt, address, count, nodelay)?,
@@ -123,13 +124,13 @@ fn rest_all<R: Looped>(rt: &R, address: Option<&str>, count: usize, nodelay: boo
     Ok(Told::Rested(count))
 }
 
-/// The figures of calls that are polled.
+/// Measures calls that are polled.
 fn polled_calls<R: Looped>(rt: &R, address: &str, load: Load, nodelay: bool) -> Result<Told> {
     let Ran { elapsed, times } = run_polled(rt, address, Work::Calls, load, nodelay)?;
     Ok(Told::Figures(figures_of(load, elapsed, times)))
 }
 
-/// The rates of each kind of stream, one after the other.
+/// Measures each kind of stream, one after the other.
 fn stream_rates<R: Looped>(rt: &R, address: &str, load: Load, nodelay: bool) -> Result<Told> {
     Ok(Told::Rates(Rates {
         chat: rate_of(rt, address, Work::Chat, load, nodelay)?,
@@ -149,7 +150,7 @@ fn rate_of<R: Looped>(
     Ok(rate(ran.times.len(), ran.elapsed))
 }
 
-/// Callers of one client that all of them share.
+/// Starts callers that share one client.
 fn client_callers<R: Measured + 'static>(
     rt: &R,
     address: &str,
@@ -168,7 +169,7 @@ fn client_callers<R: Measured + 'static>(
     Ok(callers)
 }
 
-/// Callers that have a connection each to a bare echo.
+/// Starts callers, each with its own connection to a bare echo.
 fn raw_callers<R: Measured + 'static>(
     rt: &R,
     load: Load,
@@ -200,7 +201,7 @@ fn start_caller<R: Measured + 'static, E: Echoes<R> + Send + Drop + 'static>(
     }
 }
 
-/// The times of all calls, once all callers are done.
+/// Waits for all callers, and returns the times of all calls.
 fn all_times<R: Measured>(rt: &R, callers: Vec<Caller>) -> Result<Vec<u64>> {
     let mut all = Vec::new(rt.alloc());
     for caller in callers {
@@ -223,7 +224,8 @@ fn figures_of(load: Load, elapsed: u64, times: Vec<u64>) -> Figures
     }
 }
 
-/// Shows how many calls are done, five times a second, until all are or for a while none was.
+/// Shows the number of calls that are done, five times a second. Ends when all calls are done, or when none was done
+/// for a while.
 fn show<R: Measured, X: Write>(rt: &R, load: Load, done: &AtomicU64, errors: &mut X) -> Result<()> {
     let mut before = 0;
     let mut quiet: u32 = 0;

@@ -27,7 +27,7 @@ impl<R: Host> Echoes<R> for RawEcho {
     }
 }
 
-/// Writes all of it.
+/// Writes all bytes.
 pub fn write_all(stream: &PipeConnection, bytes: &[u8]) -> Result<()> {
     let mut rest = bytes;
     for _ in 0..bytes.len() {
@@ -54,7 +54,7 @@ fn read_all(alloc: Global, stream: &PipeConnection, buffer: &mut [u8]) -> Result
     Ok(())
 }
 
-/// Starts a bare echo at a free port, which ends with the process, and gives its address.
+/// Starts a bare echo at a free port, and returns its address. The echo ends with the process.
 pub fn start_raw<R>(rt: &R, nodelay: bool) -> Result<String>
 where
     R: Runtime + Files + Net<Listener = TcpListener, Stream = TcpStream> + 'static,
@@ -104,7 +104,7 @@ fn echo_all<R: Host>(rt: &R, stream: &PipeConnection) {
     unreachable!()
 }
 
-/// A connection to the echo at this address.
+/// Connects to the echo at this address.
 pub fn connect_raw<R: Net<Stream = TcpStream>>(
     rt: &R,
     alloc: Global,

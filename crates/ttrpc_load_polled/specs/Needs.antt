@@ -1,4 +1,4 @@
--- For what the exchanges of one event loop wait.
+-- The sources that the exchanges of one event loop wait for.
 -- Source: this project's.
 use Rattle.std.specs.Prelude.{◌≡◌, ℕ, Option, Some, None}
 use Rattle.std.specs.Arc.{arc_value}
@@ -12,12 +12,12 @@ use Rattle.ttrpc_load_polled.specs.declared.exchanges.Exchanges.TheVariants.{Cal
 use Rattle.ttrpc_load_polled.specs.declared.talks.TalkAt.{TalkAt}
 use Rattle.ttrpc_load_polled.specs.declared.talks.TalkAt.TheVariants.{Opens, Sends, Receives, Done}
 
--- a caller waits for its call's answer
+-- a caller waits for the response to its call
 abbrev pub CallNeeds : {O I : Type 0} → Option (ClientRequest O I) → ℕ → Type 0
 CallNeeds (Some call) s = s ≡ line_source (arc_value call.line)
 CallNeeds None s = ⊥
 
--- a talk waits for room for its request, until an item has left, or for one
+-- a talk waits for room for its request, until an item is sent, or for an item
 abbrev pub TalkNeeds : {R : Type 0} → TalkAt R → ℕ → Type 0
 TalkNeeds (Opens opening) s = service_opening_needs opening.at s
 TalkNeeds (Sends halves sending) s = s ≡ sender_source line_source halves.tx.tx
@@ -30,7 +30,7 @@ CountNeeds (OpensCount opening) s = service_opening_needs opening.at s
 CountNeeds (ReceivesItem stream) s = s ≡ receiver_source line_source stream.rx.rx
 CountNeeds IsCounted s = ⊥
 
--- and so for exchanges of each kind
+-- exchanges wait for the same, by their kind
 abbrev pub ExchangesNeed : {R : Type 0} → Exchanges R → ℕ → Type 0
 ExchangesNeed (OfCalls calls) = CallNeeds calls.call
 ExchangesNeed (OfTalks talks) = TalkNeeds talks.at

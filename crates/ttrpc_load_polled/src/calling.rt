@@ -1,11 +1,11 @@
-//! What a call of `Echo` asks, and whether it is answered as it should be.
+//! A call of `Echo`, and the check of its response.
 ghost use Rattle.std.specs.Prelude.{◌≡◌, ◌≢◌, [], codes, pos, IfOk, OnErr, OnOk};
 
 use std::alloc::Global;
 use ttrpc_proto::{Error, Request, Result};
 use ttrpc_wire::{Blob, Sequence, Text};
 
-/// Makes a request of `Echo` with this payload.
+/// Returns a request of `Echo` with this payload.
 pub fn request_of(alloc: Global, payload: &[u8]) -> Result<Request>
     ensures { IfOk result (λ request. request ≡ record {
       service = codes "demo.Echo";
@@ -24,7 +24,7 @@ pub fn request_of(alloc: Global, payload: &[u8]) -> Result<Request>
     })
 }
 
-/// Compares an answer with what was sent, and fails if they differ.
+/// Returns an error if the answer differs from the payload.
 pub fn same(alloc: Global, answer: &[u8], payload: &[u8]) -> Result<()>
     ensures ok { OnOk result (answer.now ≡ payload.now) }
     ensures err { OnErr result (answer.now ≢ payload.now) }

@@ -1,4 +1,4 @@
-//! Calls that are polled, one behind the other.
+//! Calls that are polled, one after the other.
 ghost use Rattle.futures.specs.Poll.{OnPending};
 ghost use Rattle.futures.specs.Task.{Covers, Keeps};
 ghost use Rattle.ttrpc_load_polled.specs.Needs.{CallNeeds};
@@ -11,7 +11,7 @@ use ttrpc_polled_client::{Client, ClientRequest};
 use ttrpc_proto::{Response, Result};
 use ttrpc_secure::Plain;
 
-/// So many calls of `Echo`, each of which is made once the one before it was answered.
+/// A number of calls of `Echo`, each made after the one before was answered.
 #[derive(Drop)]
 pub struct Calls<R: Timed> {
     client: Client<R, Plain, Plain>,
@@ -21,7 +21,7 @@ pub struct Calls<R: Timed> {
 }
 
 impl<R: Timed> Calls<R> {
-    /// Prepares so many calls by this client, with this payload.
+    /// Prepares `left` calls by this client, with this payload.
     pub fn new(client: Client<R, Plain, Plain>, payload: Vec<u8>, left: usize) -> Calls<R> {
         Calls {
             client,
@@ -31,7 +31,7 @@ impl<R: Timed> Calls<R> {
         }
     }
 
-    /// Takes the call that is under way, or makes the next.
+    /// Takes the running call, or makes the next.
     fn current(&mut self) -> Result<ClientRequest<Plain, Plain>> {
         if let Some(call) = self.call.take() {
             return Ok(call);
@@ -40,7 +40,7 @@ impl<R: Timed> Calls<R> {
         self.client.request(request)
     }
 
-    /// Counts a call that was answered, by what was sent or by something else.
+    /// Counts an answered call. Returns an error if the response differs from the payload.
     fn answered(&mut self, response: &Response) -> Result<bool> {
         self.left = self.left.saturating_sub(1);
         let payload = self.payload.as_slice();
@@ -48,7 +48,7 @@ impl<R: Timed> Calls<R> {
         Ok(true)
     }
 
-    /// Polls a call. Ready: that it was answered, or why it wasn't.
+    /// Polls a call. Ready with true if the response was right, or with the error.
     fn poll_call(
         &mut self,
         call: ClientRequest<Plain, Plain>,

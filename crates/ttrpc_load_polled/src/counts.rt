@@ -13,17 +13,17 @@ use ttrpc_proto::Result;
 use ttrpc_secure::Plain;
 use ttrpc_wire::Blob;
 
-/// A stream that a server fills.
+/// A stream on which the server sends items.
 type Filled<R> = ClientStreamReceiver<Blob, R, Plain, Plain>;
 
-/// Where a count is.
+/// The state of a count.
 #[derive(Drop)]
 pub enum CountAt<R: Timed> {
-    /// The stream is to be opened.
+    /// The stream is being opened.
     Opens(ClientOpening<Filled<R>, R, Plain, Plain>),
-    /// An item is to come.
+    /// The next item is awaited.
     Receives(Filled<R>),
-    /// It is over.
+    /// The count has ended.
     Done,
 }
 
@@ -34,7 +34,7 @@ pub struct Counts<R: Timed> {
 }
 
 impl<R: Timed> Counts<R> {
-    /// As many items as the request asks for.
+    /// Returns a count of the items that the request asks for.
     pub fn new(client: &Client<R, Plain, Plain>, request: &Blob) -> Counts<R> {
         let context = CallContext::new(client.alloc());
         Counts {
@@ -42,7 +42,7 @@ impl<R: Timed> Counts<R> {
         }
     }
 
-    /// Polls the opening of the stream. Ready: that no item came by it, or why it doesn't open.
+    /// Polls the opening of the stream. Ready with false if the stream is open, since no item came, or with the error.
     fn poll_opening(
         &mut self,
         opening: ClientOpening<Filled<R>, R, Plain, Plain>,
@@ -65,7 +65,7 @@ impl<R: Timed> Counts<R> {
         }
     }
 
-    /// Polls for an item. Ready: that one came, none if there are no more, or why none comes.
+    /// Polls for an item. Ready with true if an item came, with `None` if there are no more, or with the error.
     fn poll_item(&mut self, stream: Filled<R>, cx: &mut Context<'_>) -> Poll<Option<Result<bool>>>
         ensures registered { OnPending result (Covers cx.new (CountNeeds self.new.at)) }
         ensures kept { Keeps cx.old cx.new }

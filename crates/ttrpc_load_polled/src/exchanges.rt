@@ -1,4 +1,4 @@
-//! What a task does, one exchange behind the other.
+//! The exchanges of a task, one after the other.
 use crate::calls::Calls;
 use crate::counts::Counts;
 use crate::talks::{Talk, Talks};
@@ -10,12 +10,12 @@ use ttrpc_proto::Result;
 use ttrpc_secure::Plain;
 use ttrpc_wire::Blob;
 
-/// What is measured.
+/// The kind of exchanges that are measured.
 #[derive(Clone, Copy, Debug)]
 pub enum Work {
     /// Calls of `Echo`.
     Calls,
-    /// Items of `Chat`, each of which comes back.
+    /// Items of `Chat` that come back.
     Chat,
     /// Items that are sent to `Sum`.
     Sum,
@@ -23,7 +23,7 @@ pub enum Work {
     Count,
 }
 
-/// The exchanges of one task. Each item says whether one is done.
+/// The exchanges of one task, as a stream. Each item is true if it ends an exchange.
 #[derive(Drop)]
 pub enum Exchanges<R: Timed> {
     Calls(Calls<R>),
@@ -32,7 +32,7 @@ pub enum Exchanges<R: Timed> {
 }
 
 impl<R: Timed> Exchanges<R> {
-    /// Prepares so many exchanges by this client, with so many bytes each.
+    /// Prepares `count` exchanges by this client, with `bytes` bytes each.
     pub fn new(
         client: Client<R, Plain, Plain>,
         work: Work,

@@ -1,5 +1,6 @@
-//! The exchanges of the program `ttrpc-load` that are polled on one event loop: calls, streams of each kind, and clients at rest. Beside
-//! them what the program's callers in threads need, too: the request of a call, and how many calls each caller makes.
+//! The exchanges of the program `ttrpc-load` that are polled on one event loop: calls, streams of each kind, and
+//! clients at rest. The program's callers in threads use two of its parts, too: the request of a call, and the share of
+//! calls that each caller makes.
 #![tactic(auto)]
 
 mod calling;

@@ -1,7 +1,7 @@
-//! How much is asked of a server.
+//! The load of a server.
 ghost use Rattle.std.specs.Prelude.{◌≡◌, ◌+◌, ◌/◌, ◌%◌, ◌<◌, nat_lt, if◌then◌else◌};
 
-/// How many calls are made, by how many callers, with how many bytes.
+/// The number of calls, the number of callers, and the number of bytes of each call.
 #[derive(Clone, Copy, Debug)]
 pub struct Load {
     pub calls: usize,
@@ -9,10 +9,11 @@ pub struct Load {
     pub bytes: usize,
 }
 
-/// Returns how many of the calls the caller of this number makes, from 0: all make as many, and the first ones one more where
-/// calls are left over.
+/// Returns the number of calls that the caller with this number makes, counted from 0. All callers make the same number
+/// of calls, and the first ones make one more if calls are left over. Without callers the number is 0.
 pub fn share(load: Load, caller: usize) -> usize
-    ensures { 0 < load.callers → result ≡ load.calls / load.callers + (if nat_lt caller (load.calls % load.callers) then 1 else 0) }
+    ensures { 0 < load.callers → result
+        ≡ load.calls / load.callers + (if nat_lt caller (load.calls % load.callers) then 1 else 0) }
 {
     if load.callers == 0 {
         return 0;

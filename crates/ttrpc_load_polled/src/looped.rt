@@ -1,4 +1,4 @@
-//! What a client measures whose calls and streams are polled, on one event loop.
+//! The measurement of a client on one event loop, with calls and streams that are polled.
 use crate::exchanges::{Exchanges, Work};
 use crate::load::{Load, share};
 use crate::tally::Tally;
@@ -16,20 +16,21 @@ use ttrpc_polled_client::{Client, TcpConnection};
 use ttrpc_proto::{Error, Result};
 use ttrpc_secure::Plain;
 
-/// What an event loop asks of the system.
+/// The parts of the system that an event loop uses.
 pub trait Looped: Timed + Wait + RandomSource + Net<Listener = TcpListener, Stream = TcpStream> {}
 
 impl<R: Timed + Wait + RandomSource + Net<Listener = TcpListener, Stream = TcpStream>> Looped
     for R {}
 
-/// How long exchanges took in all, and each of them, in nanoseconds.
+/// The time of all exchanges, and the time of each of them, in nanoseconds.
 #[derive(Drop)]
 pub struct Ran {
     pub elapsed: u64,
     pub times: Vec<u64>,
 }
 
-/// Makes the exchanges of the load, each caller's one behind the other, over one client and on one event loop.
+/// Makes the exchanges of the load over one client and on one event loop. Each caller makes its exchanges one after the
+/// other.
 pub fn run_polled<R: Looped>(
     rt: &R,
     address: &str,
@@ -47,7 +48,7 @@ pub fn run_polled<R: Looped>(
     })
 }
 
-/// Runs the callers of a client beside its connection, and gives how long that took.
+/// Runs the callers of a client while its connection is polled, and returns the time that they took, in nanoseconds.
 fn run_callers<R: Looped>(
     rt: &R,
     runtime: &mut LocalRuntime,
@@ -59,13 +60,13 @@ fn run_callers<R: Looped>(
 ) -> Result<u64> {
     let tasks = nix(runtime.task_set(rt))?;
     let start = moment(rt)?;
-    // The connection is over once the last caller is.
+    // The connection ends after the last caller.
     spawn_all(rt, &tasks, client, work, load, start, tally)?;
     nix(runtime.block_on_with(rt, &tasks, connection))?;
     Ok(moment(rt)?.saturating_sub(start))
 }
 
-/// Connects a client, and gives it with its connection.
+/// Connects a client, and returns it with its connection.
 pub(crate) fn connect<R: Looped>(
     rt: &R,
     runtime: &mut LocalRuntime,
@@ -76,7 +77,7 @@ pub(crate) fn connect<R: Looped>(
     nix(runtime.block_on(rt, connecting))?
 }
 
-/// Starts the callers of a client, and lets go of it.
+/// Starts the callers of a client, and drops the client.
 fn spawn_all<R: Looped>(
     rt: &R,
     tasks: &TaskSet<Tallied<R>>,
@@ -94,7 +95,7 @@ fn spawn_all<R: Looped>(
     Ok(())
 }
 
-/// Starts a caller in a task of its own.
+/// Starts a caller in its own task.
 fn spawn<R: Looped>(
     rt: &R,
     tasks: &TaskSet<Tallied<R>>,

@@ -1,4 +1,4 @@
-//! Connections at rest, whose memory is looked at from outside.
+//! Connections at rest, for measuring their memory from outside.
 use crate::looped::{Looped, connect, nix};
 use futures::executor::TaskSet;
 use tokio::io::{DuplexStream, duplex};
@@ -10,7 +10,7 @@ use ttrpc_secure::{HookOutput, Plain};
 /// A connection over a reader that gives nothing and a writer that takes nothing.
 type Resting<R> = ClientConnection<R, DuplexStream, DuplexStream, Plain, Plain>;
 
-/// What keeps such a connection from being over: its client, and the other ends of its reader and its writer.
+/// The parts that keep such a connection open: its client, and the other ends of its reader and its writer.
 #[derive(Drop)]
 struct Kept<R: Looped> {
     _client: Client<R, Plain, Plain>,
@@ -18,7 +18,7 @@ struct Kept<R: Looped> {
     _taker: DuplexStream,
 }
 
-/// Holds so many clients with their connections, one at least, on one event loop. It doesn't end by itself.
+/// Holds `count` clients with their connections, but at least one, on one event loop. It doesn't end by itself.
 pub fn rest<R: Looped>(rt: &R, count: usize) -> Result<()> {
     let mut runtime = nix(LocalRuntime::new(rt))?;
     let tasks = nix(runtime.task_set(rt))?;
@@ -30,7 +30,7 @@ pub fn rest<R: Looped>(rt: &R, count: usize) -> Result<()> {
     nix(runtime.block_on_with(rt, &tasks, last))
 }
 
-/// Adds one more of them.
+/// Adds one more client and its connection.
 fn rest_one<R: Looped>(
     rt: &R,
     handle: &Handle,
@@ -59,7 +59,7 @@ fn resting<R: Looped>(rt: &R, handle: &Handle) -> Result<(Kept<R>, Resting<R>)> 
     Ok((kept, connection))
 }
 
-/// Holds so many clients that are connected to the server at this address. It doesn't end by itself, either.
+/// Holds `count` clients, but at least one, that are connected to the server at this address. It doesn't end by itself.
 pub fn rest_at<R: Looped>(rt: &R, address: &str, count: usize, nodelay: bool) -> Result<()> {
     let mut runtime = nix(LocalRuntime::new(rt))?;
     let tasks = nix(runtime.task_set(rt))?;
@@ -71,7 +71,7 @@ pub fn rest_at<R: Looped>(rt: &R, address: &str, count: usize, nodelay: bool) ->
     nix(runtime.block_on_with(rt, &tasks, last))
 }
 
-/// Adds one more of them.
+/// Connects one more client.
 fn connect_one<R: Looped>(
     rt: &R,
     runtime: &mut LocalRuntime,

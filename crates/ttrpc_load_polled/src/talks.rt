@@ -14,10 +14,10 @@ use ttrpc_proto::Result;
 use ttrpc_secure::Plain;
 use ttrpc_wire::Blob;
 
-/// What the streams share.
+/// The line that the streams share.
 pub type Line = ClientLine<Plain, Plain>;
 
-/// What is said on a stream.
+/// The kind of a talk on a stream.
 #[derive(Clone, Copy, Debug, PartialEq, Eq)]
 pub enum Talk {
     /// Each item comes back before the next is sent.
@@ -43,23 +43,23 @@ pub struct Halves {
     rx: CSReceiver<Blob, Line>,
 }
 
-/// A stream that is opened.
+/// A stream that is being opened.
 type OpeningTalk<R> = ClientOpening<ClientStream<Blob, Blob, Line>, R, Plain, Plain>;
 
-/// Where a talk is.
+/// The state of a talk.
 #[derive(Drop)]
 pub enum TalkAt<R: Timed> {
-    /// The stream is to be opened.
+    /// The stream is being opened.
     Opens(OpeningTalk<R>),
-    /// An item is sent, or that there are no more.
+    /// An item or the close is being sent.
     Sends(Halves, Sending),
-    /// An item is to come.
+    /// The next item is awaited.
     Receives(Halves),
-    /// It is over.
+    /// The talk has ended.
     Done,
 }
 
-/// A stream on which so many items are sent.
+/// A stream on which a number of items is sent.
 #[derive(Drop)]
 pub struct Talks<R: Timed> {
     client: Client<R, Plain, Plain>,
@@ -70,7 +70,7 @@ pub struct Talks<R: Timed> {
 }
 
 impl<R: Timed> Talks<R> {
-    /// Prepares so many items of this kind of talk, by this client.
+    /// Prepares a talk of this kind with `left` items, by this client.
     pub fn new(client: Client<R, Plain, Plain>, talk: Talk, item: Blob, left: usize) -> Talks<R> {
         let context = CallContext::new(client.alloc());
         let answered = talk == Talk::Chat;
@@ -84,7 +84,7 @@ impl<R: Timed> Talks<R> {
         }
     }
 
-    /// Begins to send the next item, or says that there are no more.
+    /// Begins to send the next item, or the close if there are no more.
     fn send_next(&mut self, halves: Halves) {
         let sending = if self.left == 0 {
             Sending::Closes
@@ -94,7 +94,7 @@ impl<R: Timed> Talks<R> {
         self.at = TalkAt::Sends(halves, sending);
     }
 
-    /// Goes on behind a frame that has left. Whether an exchange is done by it.
+    /// Goes on after a frame has left. Returns whether that ends an exchange.
     fn sent(&mut self, halves: Halves) -> bool {
         if self.talk == Talk::Chat || self.left == 0 {
             self.at = TalkAt::Receives(halves);
@@ -105,7 +105,7 @@ impl<R: Timed> Talks<R> {
         true
     }
 
-    /// Goes on behind an item that came. Whether an exchange is done by it.
+    /// Goes on after an item came. Returns whether that ends an exchange.
     fn received(&mut self, halves: Halves, item: &Blob) -> Result<bool> {
         if self.talk == Talk::Sum {
             return Ok(false);
@@ -118,7 +118,8 @@ impl<R: Timed> Talks<R> {
         Ok(true)
     }
 
-    /// Polls the opening of the stream. Ready: that no exchange is done by it, or why it doesn't open.
+    /// Polls the opening of the stream. Ready with false if the stream is open, since that ends no exchange, or with
+    /// the error.
     fn poll_opening(
         &mut self,
         opening: OpeningTalk<R>,
@@ -142,7 +143,8 @@ impl<R: Timed> Talks<R> {
         }
     }
 
-    /// Polls a frame that is sent. Ready: whether an exchange is done by it, or why it isn't sent.
+    /// Polls the sending of a frame. Ready with true if that ends an exchange, with false if it doesn't, or with the
+    /// error.
     fn poll_sending(
         &mut self,
         halves: Halves,
@@ -163,7 +165,7 @@ impl<R: Timed> Talks<R> {
         }
     }
 
-    /// Polls for an item. Ready: whether an exchange is done by it, or why none comes.
+    /// Polls for an item. Ready with true if that ends an exchange, with false if it doesn't, or with the error.
     fn poll_item(&mut self, halves: Halves, cx: &mut Context<'_>) -> Poll<Option<Result<bool>>>
         ensures registered { OnPending result (Covers cx.new (TalkNeeds self.new.at)) }
         ensures kept { Keeps cx.old cx.new }

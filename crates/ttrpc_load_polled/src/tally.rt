@@ -1,9 +1,9 @@
-//! What the tasks of one event loop share.
+//! The results that the tasks of one event loop share.
 use std::alloc::{AllocError, Global};
 use std::cell::Cell;
 use ttrpc_proto::{Error, Result};
 
-/// What came of the tasks: when each exchange was done, in nanoseconds, and the first fault.
+/// The results of the tasks: the time of each exchange, in nanoseconds, and the first fault.
 #[derive(Drop)]
 pub struct Tally {
     alloc: Global,
@@ -12,7 +12,8 @@ pub struct Tally {
 }
 
 impl Tally {
-    /// Makes one with room for so many times, whose pages are touched, so that memory stays as it is meanwhile.
+    /// Returns a tally with room for `count` times. The pages of the room are touched, so that memory doesn't grow
+    /// during the exchanges.
     pub fn new(alloc: Global, count: usize) -> std::result::Result<Tally, AllocError> {
         let mut times = Vec::from_elem(alloc, u64::MAX, count)?;
         times.clear();
@@ -23,7 +24,7 @@ impl Tally {
         })
     }
 
-    /// Keeps how long an exchange took.
+    /// Keeps the time of an exchange.
     pub fn add(&self, time: u64) -> Result<()> {
         let mut times = self.times.replace(Vec::new(self.alloc));
         let kept = times.push(time);
@@ -37,7 +38,7 @@ impl Tally {
         self.fault.set(Some(before.unwrap_or(error)));
     }
 
-    /// Takes the times, or the fault.
+    /// Takes the times. Returns the fault instead if there is one.
     pub fn taken(&self) -> Result<Vec<u64>> {
         match self.fault.replace(None) {
             Some(error) => Err(error),

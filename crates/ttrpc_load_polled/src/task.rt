@@ -8,10 +8,10 @@ use std::rc::Rc;
 use ttrpc_polled::{Timed, moment};
 use ttrpc_proto::Result;
 
-/// How many exchanges are taken at most before other tasks run.
+/// The number of items that one poll takes, before other tasks run.
 const TURNS: u32 = 64;
 
-/// A task that takes what exchanges yield, and tallies how long each took.
+/// A task that runs its exchanges, and keeps the time of each.
 #[derive(Drop)]
 pub struct Tallied<R: Timed> {
     pub rt: R,
@@ -21,7 +21,7 @@ pub struct Tallied<R: Timed> {
 }
 
 impl<R: Timed> Tallied<R> {
-    /// Keeps the time of an exchange, if one is done.
+    /// Keeps the time of an exchange if the item ends one.
     fn note(&mut self, came: Result<bool>) -> Result<()> {
         if came? {
             let now = moment(&self.rt)?;
@@ -31,7 +31,7 @@ impl<R: Timed> Tallied<R> {
         Ok(())
     }
 
-    /// Keeps the time of an exchange, or the fault that ends the task. Whether it goes on.
+    /// Keeps the time of an exchange, or the fault that ends the task. Returns whether the task goes on.
     fn goes_on(&mut self, came: Result<bool>) -> bool {
         match self.note(came) {
             Ok(()) => true,

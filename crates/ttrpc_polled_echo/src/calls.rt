@@ -1,4 +1,4 @@
-//! The program's calls, each over a connection of its own.
+//! The program's calls, each over its own connection.
 use crate::beside::Beside;
 use crate::echo_client::{EchoClient, Line};
 use crate::system::{System, nix};
@@ -12,7 +12,7 @@ use ttrpc_proto::{Error, Result};
 use ttrpc_secure::Plain;
 use ttrpc_wire::Blob;
 
-/// An event loop, and a connection that is polled on it as long as it isn't over.
+/// An event loop, and a connection that is polled on it until it ends.
 #[derive(Drop)]
 struct Driver<R: System> {
     rt: R,
@@ -20,7 +20,7 @@ struct Driver<R: System> {
     connection: Option<TcpConnection<R, Plain, Plain>>,
 }
 
-/// A client, and what drives its connection.
+/// A client, and the driver of its connection.
 #[derive(Drop)]
 pub struct Site<R: System> {
     driver: Driver<R>,
@@ -44,13 +44,13 @@ impl<R: System> Site<R> {
         })
     }
 
-    /// Calls `Echo`, and tells what came of it.
+    /// Calls `Echo`, and writes the result.
     pub fn call<W: Write>(&mut self, item: &Blob, output: &mut W) -> Result<u8> {
         let outcome = self.driver.done(self.client.echo(item))?;
         tell_outcome(outcome, output)
     }
 
-    /// Sends each item to `Chat`, and tells what comes back.
+    /// Sends each item to `Chat`, and writes each item that comes back.
     pub fn chat<W: Write>(&mut self, items: &[Blob], output: &mut W) -> Result<u8> {
         let mut stream = self.driver.done(self.client.chat())??;
         for item in items {
@@ -61,7 +61,7 @@ impl<R: System> Site<R> {
         self.driver.end_chat(&mut stream, output)
     }
 
-    /// Sends the items to `Sum`, and tells what it answers.
+    /// Sends the items to `Sum`, and writes its response.
     pub fn sum<W: Write>(&mut self, items: &[Blob], output: &mut W) -> Result<u8> {
         let mut stream = self.driver.done(self.client.sum())??;
         for item in items {
@@ -71,7 +71,7 @@ impl<R: System> Site<R> {
         tell_outcome(answer, output)
     }
 
-    /// Asks `Count` for so many items, and tells each.
+    /// Requests `count` items from `Count`, and writes each.
     pub fn count<W: Write>(&mut self, count: u32, output: &mut W) -> Result<u8> {
         let request = Blob::from_slice(self.driver.rt.alloc(), &count.to_be_bytes())?;
         let mut stream = self.driver.done(self.client.count(&request))??;
@@ -85,7 +85,7 @@ impl<R: System> Site<R> {
 }
 
 impl<R: System> Driver<R> {
-    /// Does this step, while the connection goes on.
+    /// Runs this step to its end, and polls the connection meanwhile.
     fn done<F: Future>(&mut self, step: F) -> Result<F::Output>
     where
         F::Output: Drop,
@@ -95,7 +95,7 @@ impl<R: System> Driver<R> {
         nix(self.runtime.block_on(&self.rt, Beside { step, connection }))
     }
 
-    /// Sends an item, and tells what comes back. Gives the status if that is an end.
+    /// Sends an item, and writes the item that comes back. Returns the status if the stream ended instead.
     fn talk<W: Write>(
         &mut self,
         stream: &mut ClientStream<Blob, Blob, Line>,
@@ -108,7 +108,7 @@ impl<R: System> Driver<R> {
         tell_received(self.done(stream.recv())?, output)
     }
 
-    /// Closes a chat, and tells how it ends.
+    /// Closes a chat, and writes how it ends. Returns the status.
     fn end_chat<W: Write>(
         &mut self,
         stream: &mut ClientStream<Blob, Blob, Line>,
@@ -124,7 +124,7 @@ impl<R: System> Driver<R> {
         self.done(stream.send(item))?
     }
 
-    /// Receives the next item, and tells it. Gives the status if there is none.
+    /// Receives the next item, and writes it. Returns the status if there is none.
     fn tell_next<W: Write>(
         &mut self,
         stream: &mut ClientStreamReceiver<Blob, R, Plain, Plain>,
@@ -139,7 +139,7 @@ impl<R: System> Driver<R> {
     }
 }
 
-/// Tells what was received. Gives the status if that is an end.
+/// Writes a received item. Returns the status if the stream ended instead.
 fn tell_received<W: Write>(received: Result<Blob>, output: &mut W) -> Result<Option<u8>> {
     match received {
         Ok(item) => {

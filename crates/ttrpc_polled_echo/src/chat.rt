@@ -10,21 +10,21 @@ use ttrpc_polled::{SSReceiver, SSSender, Sending, ServerStream, StreamLine};
 use ttrpc_proto::{Error, Result};
 use ttrpc_wire::Blob;
 
-/// How many items are sent back at most before other tasks run.
+/// The number of turns of one poll, before other tasks run.
 const TURNS: u32 = 64;
 
-/// Where a chat is.
+/// The state of a chat.
 #[derive(Drop)]
 enum Turn {
-    /// It waits for an item.
+    /// The chat waits for an item.
     Receives,
-    /// It sends one back.
+    /// The chat sends an item back.
     Sends(Sending),
-    /// It has ended.
+    /// The chat has ended.
     Done,
 }
 
-/// A chat that goes on.
+/// A running chat.
 #[derive(Drop)]
 pub struct Chatting<L: StreamLine> {
     sender: SSSender<Blob, L>,
@@ -34,7 +34,7 @@ pub struct Chatting<L: StreamLine> {
 }
 
 impl<L: StreamLine> Chatting<L> {
-    /// Begins the chat on this stream.
+    /// Begins a chat on this stream.
     pub fn new(stream: ServerStream<Blob, Blob, L>) -> Chatting<L> {
         let (sender, receiver) = stream.split();
         Chatting {
@@ -45,8 +45,8 @@ impl<L: StreamLine> Chatting<L> {
         }
     }
 
-    /// Polls for an item. Ready: none if one came, which is then sent back, or how the chat ends. A peer may flag its last item as
-    /// that, so behind an item the close is an end.
+    /// Polls for an item. Ready with `None` if an item came, which is then sent back, or with the result of the chat. A
+    /// peer may flag its last item as the last, so after an item `RemoteClosed` is the normal end.
     fn poll_item(&mut self, cx: &mut Context<'_>) -> Poll<Option<Result<()>>>
         ensures registered { OnPending result (Covers cx.new (ChattingNeeds L.came self.new)) }
         ensures kept { Keeps cx.old cx.new }
@@ -67,7 +67,7 @@ impl<L: StreamLine> Chatting<L> {
         }
     }
 
-    /// Polls an item that is sent. Ready: none if it has left, or how the chat ends.
+    /// Polls the sending of an item. Ready with `None` if the item has left, or with the result of the chat.
     fn poll_sending(&mut self, sending: Sending, cx: &mut Context<'_>) -> Poll<Option<Result<()>>>
         ensures registered { OnPending result (Covers cx.new (ChattingNeeds L.came self.new)) }
         ensures kept { Keeps cx.old cx.new }
@@ -86,7 +86,7 @@ impl<L: StreamLine> Chatting<L> {
         }
     }
 
-    /// Goes on by one turn. Ready: what came of it, which is the end unless it is none.
+    /// Goes on by one turn. Ready with `None` if the chat goes on, or with its result.
     fn poll_turn(&mut self, cx: &mut Context<'_>) -> Poll<Option<Result<()>>>
         ensures registered { OnPending result (Covers cx.new (ChattingNeeds L.came self.new)) }
         ensures kept { Keeps cx.old cx.new }

@@ -1,4 +1,4 @@
-//! The stream `Count`, which sends as many items as its request says.
+//! The stream `Count`, which sends the number of items that its request asks for.
 ghost use Rattle.futures.specs.Poll.{OnPending};
 ghost use Rattle.futures.specs.Task.{Covers, Keeps};
 ghost use Rattle.ttrpc_polled_echo.specs.Needs.{CountingNeeds};
@@ -11,21 +11,21 @@ use ttrpc_polled::{Sending, ServerStreamOpening, ServerStreamSender, StreamLine}
 use ttrpc_proto::{Error, Result};
 use ttrpc_wire::Blob;
 
-/// How many items are sent at most before other tasks run.
+/// The number of turns of one poll, before other tasks run.
 const TURNS: u32 = 64;
 
-/// Where a count is.
+/// The state of a count.
 #[derive(Drop)]
 enum Counted<L: StreamLine> {
-    /// It waits for its request.
+    /// The count waits for its request.
     Opens(ServerStreamOpening<Blob, Blob, L>),
-    /// It sends an item, behind which so many others are still to be sent.
+    /// The count sends an item. After it, this number of items is still to be sent.
     Sends(ServerStreamSender<Blob, L>, Sending, u64),
-    /// It has ended.
+    /// The count has ended.
     Done,
 }
 
-/// A count that goes on.
+/// A running count.
 #[derive(Drop)]
 pub struct Counting<L: StreamLine> {
     alloc: Global,
@@ -34,7 +34,7 @@ pub struct Counting<L: StreamLine> {
 }
 
 impl<L: StreamLine> Counting<L> {
-    /// Begins the count of this stream.
+    /// Begins a count on this stream.
     pub fn new(alloc: Global, opening: ServerStreamOpening<Blob, Blob, L>) -> Counting<L> {
         Counting {
             alloc,
@@ -43,7 +43,8 @@ impl<L: StreamLine> Counting<L> {
         }
     }
 
-    /// Polls for the request. Ready: none if it came and asks for an item, or how the count ends.
+    /// Polls for the request. Ready with `None` if the request came and asks for an item, or with the result of the
+    /// count.
     fn poll_request(
         &mut self,
         opening: ServerStreamOpening<Blob, Blob, L>,
@@ -66,8 +67,8 @@ impl<L: StreamLine> Counting<L> {
         }
     }
 
-    /// Polls an item that is sent, behind which so many others are still to be sent. Ready: none if it has left and another is
-    /// sent, or how the count ends.
+    /// Polls the sending of an item, after which `left` items are still to be sent. Ready with `None` if the item has
+    /// left and another one follows, or with the result of the count.
     fn poll_sending(
         &mut self,
         sender: ServerStreamSender<Blob, L>,
@@ -89,7 +90,7 @@ impl<L: StreamLine> Counting<L> {
         }
     }
 
-    /// Goes on by one turn. Ready: what came of it, which is the end unless it is none.
+    /// Goes on by one turn. Ready with `None` if the count goes on, or with its result.
     fn poll_turn(&mut self, cx: &mut Context<'_>) -> Poll<Option<Result<()>>>
         ensures registered { OnPending result (Covers cx.new (CountingNeeds L.came self.new.at)) }
         ensures kept { Keeps cx.old cx.new }
@@ -101,7 +102,7 @@ impl<L: StreamLine> Counting<L> {
         }
     }
 
-    /// Begins to send the next of so many items, or ends.
+    /// Begins to send the next item if `left` isn't 0. Otherwise returns the result of the count.
     fn send_next(&mut self, sender: ServerStreamSender<Blob, L>, left: u64) -> Option<Result<()>> {
         if left == 0 {
             return Some(Ok(()));
@@ -135,7 +136,8 @@ impl<L: StreamLine> Future for Counting<L> {
     }
 }
 
-/// Returns the number that these bytes are, the greatest first; of more than eight the last eight count.
+/// Returns the number that these bytes are, in big-endian order. If there are more than eight bytes, the last eight
+/// count.
 fn number_in(bytes: &[u8]) -> u64 {
     let mut number: u64 = 0;
     for byte in bytes {

@@ -4,7 +4,7 @@ use futures::task::{Context, Poll};
 use ttrpc_proto::{Error, Result};
 use ttrpc_wire::Blob;
 
-/// A request that is answered with what it brought.
+/// The response to a request, with the request's item.
 #[derive(Drop)]
 pub struct Echoing {
     pub item: Option<Blob>,

@@ -15,10 +15,10 @@ pub struct EchoClient<R: System> {
     pub client: Client<R, Plain, Plain>,
 }
 
-/// What the program's streams share.
+/// The line that the program's streams share.
 pub type Line = ClientLine<Plain, Plain>;
 
-/// A stream that is opened.
+/// A stream that is being opened.
 type Opening<K, R> = ClientOpening<K, R, Plain, Plain>;
 
 impl<R: System> EchoClient<R> {

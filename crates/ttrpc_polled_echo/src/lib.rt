@@ -1,5 +1,5 @@
-//! What the program `ttrpc-chat` does at its words, over the polled client and server: it serves the service `demo.Echo` and its
-//! streams, and calls one.
+//! The commands of the program `ttrpc-chat`, over the polled client and server: it serves the service `demo.Echo` with
+//! its streams, and calls one.
 #![tactic(auto)]
 
 mod beside;

@@ -4,7 +4,7 @@ use futures::task::{Context, Poll, Source, Waker};
 use ttrpc_proto::Result;
 use ttrpc_wire::Blob;
 
-/// A request that is never answered.
+/// A call without a response.
 #[derive(Drop)]
 pub struct Waiting {
     never: Source,
@@ -12,7 +12,7 @@ pub struct Waiting {
 }
 
 impl Waiting {
-    /// Waits for ever.
+    /// Returns a future that is never ready.
     pub fn new() -> Waiting {
         Waiting {
             never: Source::new(),

@@ -1,4 +1,4 @@
-//! The program at its words.
+//! The program's commands.
 use crate::calls::Site;
 use crate::service::{EchoMethod, EchoStream, services};
 use crate::serving::ServesFor;
@@ -13,8 +13,8 @@ use ttrpc_proto::Result;
 const USAGE: &str =
     "usage: ttrpc-chat serve ADDR [SECONDS] | unary ADDR HEX | chat ADDR HEX.. | sum ADDR HEX.. | count ADDR N";
 
-/// Does what the words say, and tells on `errors` what went wrong. Whether each write goes out at once is `nodelay`. Gives the
-/// status: 0, 1 at a failure or a refused call, and 2 at wrong words.
+/// Runs the command that the words give, and reports failures on `errors`. With `nodelay`, each write goes out at once.
+/// Returns the status: 0, or 1 at a failure or a refused call, or 2 if the words are wrong.
 pub fn run<R: System, W: Write, X: Write>(
     rt: R,
     words: &[String],
@@ -50,7 +50,7 @@ fn tell_usage<X: Write>(errors: &mut X) -> Result<u8> {
     Ok(2)
 }
 
-/// Connects to an address, and calls.
+/// Connects to an address, and makes a call.
 fn call_at<R: System, W: Write>(
     rt: R,
     address: &str,
@@ -74,8 +74,8 @@ fn call_by<R: System, W: Write>(site: &mut Site<R>, call: &Call, output: &mut W)
 /// The server of the program.
 pub type EchoServer<R> = Server<R, EchoMethod, EchoStream>;
 
-/// Makes a server at an address, with the services of the program. A stream that is opened without a payload begins without an
-/// item.
+/// Returns a server at an address, with the services of the program. A stream that is opened without a payload begins
+/// without an item.
 pub fn server_at<R: System>(
     rt: &R,
     handle: &Handle,
@@ -90,7 +90,7 @@ pub fn server_at<R: System>(
     )
 }
 
-/// Serves for so many seconds, or until the program is killed, and writes the address to `errors`.
+/// Serves for a number of seconds, or until the program is killed, and writes the address to `errors`.
 fn serve<R: System, X: Write>(
     rt: R,
     address: &str,
@@ -111,7 +111,7 @@ fn serve<R: System, X: Write>(
     Ok(0)
 }
 
-/// Serves for so many seconds, and then shuts the server down.
+/// Serves for `seconds` seconds, and then shuts the server down.
 fn serve_for<R: System>(
     rt: &R,
     runtime: &mut LocalRuntime,

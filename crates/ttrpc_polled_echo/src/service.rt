@@ -26,12 +26,12 @@ use ttrpc_wire::Blob;
 pub struct Echo {}
 
 impl Echo {
-    /// Gives back what it was asked with.
+    /// Responds with the request's item.
     fn echo(&self, _ctx: &TtrpcContext, item: Blob) -> Echoing {
         Echoing { item: Some(item) }
     }
 
-    /// Never answers.
+    /// Never responds.
     fn never(&self, _ctx: &TtrpcContext, _item: Blob) -> Waiting {
         Waiting::new()
     }
@@ -45,7 +45,7 @@ impl Echo {
         Chatting::new(stream)
     }
 
-    /// Tells how many items came, and how many bytes in all.
+    /// Responds with the number of items, and the number of bytes in all.
     fn sum<L: StreamLine>(
         &self,
         ctx: &TtrpcContext,
@@ -54,7 +54,7 @@ impl Echo {
         Summing::new(ctx.alloc(), stream)
     }
 
-    /// Sends as many items as the request says.
+    /// Sends the number of items that the request asks for.
     fn count<L: StreamLine>(
         &self,
         ctx: &TtrpcContext,
@@ -71,19 +71,19 @@ pub struct EchoMethod {
     kind: MethodKind,
 }
 
-/// The methods.
+/// The methods of the service.
 #[derive(Clone, Copy, Debug, PartialEq, Eq)]
 enum MethodKind {
     Echo,
     Never,
 }
 
-/// The call of one of them.
+/// A call of a method.
 #[derive(Drop)]
 pub enum MethodCall {
-    /// Of `Echo`.
+    /// A call of `Echo`.
     Echoes(Handling<Echoing, Responds<Blob>>),
-    /// Of `Never`.
+    /// A call of `Never`.
     Waits(Handling<Waiting, Responds<Blob>>),
 }
 
@@ -126,7 +126,7 @@ pub struct EchoStream {
     kind: StreamKind,
 }
 
-/// The streams.
+/// The streams of the service.
 #[derive(Clone, Copy, Debug, PartialEq, Eq)]
 enum StreamKind {
     Chat,
@@ -134,14 +134,14 @@ enum StreamKind {
     Count,
 }
 
-/// The call of one of them.
+/// A call of a stream.
 #[derive(Drop)]
 pub enum StreamCall<L: StreamLine> {
-    /// Of `Chat`.
+    /// A call of `Chat`.
     Chats(Handling<Chatting<L>, Closes>),
-    /// Of `Sum`.
+    /// A call of `Sum`.
     Sums(Handling<Summing<L>, EndsBy<Blob>>),
-    /// Of `Count`.
+    /// A call of `Count`.
     Counts(Handling<Counting<L>, Closes>),
 }
 
@@ -183,7 +183,7 @@ impl<L: StreamLine> StreamHandler<L> for EchoStream {
     }
 }
 
-/// Makes the services of the program, each under its name.
+/// Returns the services of the program, each with its name.
 pub fn services(
     alloc: Global,
 ) -> std::result::Result<BTreeMap<String, Service<EchoMethod, EchoStream>>, AllocError> {

@@ -14,7 +14,8 @@ use ttrpc_secure::Plain;
 /// A connection of the program's server.
 pub type EchoConnection<R> = TcpServerConnection<R, EchoMethod, EchoStream, Plain, Plain>;
 
-/// Accepts the connections of a server until a time is over, and then shuts the server down. The stream ends after the shutdown.
+/// Accepts the connections of a server until a time is over, and then shuts the server down. The stream ends after the
+/// shutdown.
 #[derive(Drop)]
 pub struct ServesFor<R: System> {
     server: EchoServer<R>,
@@ -22,7 +23,7 @@ pub struct ServesFor<R: System> {
     until: Until,
 }
 
-/// What the end of the stream waits for.
+/// The event that the end of the stream waits for.
 #[derive(Drop)]
 enum Until {
     /// The time is over.
@@ -32,7 +33,7 @@ enum Until {
 }
 
 impl<R: System> ServesFor<R> {
-    /// Serves by this stream of the server's connections until the time is over.
+    /// Returns the stream of the server's connections, which shuts the server down when the time is over.
     pub fn new(
         server: EchoServer<R>,
         serving: Serving<R, EchoMethod, EchoStream, NoHook>,
@@ -45,7 +46,7 @@ impl<R: System> ServesFor<R> {
         }
     }
 
-    /// Shuts the server down when the time is over. Ready: the server is shut down, or can't be.
+    /// Shuts the server down when the time is over. Ready when the server is shut down, or can't be.
     fn poll_end(&mut self, cx: &mut Context<'_>) -> Poll<()>
         ensures registered { OnPending result (IsArmed cx.new) }
         ensures kept { Keeps cx.old cx.new }

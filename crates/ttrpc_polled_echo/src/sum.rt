@@ -1,4 +1,4 @@
-//! The stream `Sum`, which tells how many items came, and how many bytes in all.
+//! The stream `Sum`, which responds with the number of items, and the number of bytes in all.
 use futures::Future;
 use futures::task::{Context, Poll};
 use std::alloc::Global;
@@ -6,10 +6,10 @@ use ttrpc_polled::{ServerStreamReceiver, StreamLine};
 use ttrpc_proto::{Error, Result};
 use ttrpc_wire::Blob;
 
-/// How many items are counted at most before other tasks run.
+/// The number of items that one poll counts, before other tasks run.
 const TURNS: u32 = 64;
 
-/// A sum that goes on.
+/// A running sum.
 #[derive(Drop)]
 pub struct Summing<L: StreamLine> {
     alloc: Global,
@@ -19,7 +19,7 @@ pub struct Summing<L: StreamLine> {
 }
 
 impl<L: StreamLine> Summing<L> {
-    /// Begins the sum of this stream.
+    /// Begins a sum on this stream.
     pub fn new(alloc: Global, receiver: ServerStreamReceiver<Blob, L>) -> Summing<L> {
         Summing {
             alloc,
@@ -35,7 +35,7 @@ impl<L: StreamLine> Summing<L> {
         self.bytes = self.bytes.saturating_add(item.len() as u64);
     }
 
-    /// Returns both numbers, eight bytes each, the greatest first.
+    /// Returns both numbers, each in eight bytes in big-endian order.
     fn told(&self) -> Result<Blob> {
         let mut told = Vec::with_capacity(self.alloc, 16)?;
         told.extend_from_slice(&self.items.to_be_bytes())?;
@@ -58,7 +58,7 @@ impl<L: StreamLine> Future for Summing<L> {
                 Poll::Pending => return Poll::Pending,
                 Poll::Ready(Ok(Some(item))) => self.add(&item),
                 Poll::Ready(Ok(None)) => return Poll::Ready(self.told()),
-                // A peer may flag its last item as that.
+                // A peer may flag its last item as the last.
                 Poll::Ready(Err(Error::RemoteClosed)) if self.items > 0 => {
                     return Poll::Ready(self.told());
                 }

@@ -1,4 +1,4 @@
-//! What the program asks of the system, and its faults.
+//! The parts of the system that the program uses, and its faults.
 use std::io;
 use std::net::{Net, TcpListener, TcpStream};
 use std::random::RandomSource;
@@ -6,7 +6,7 @@ use std::sync::Wait;
 use ttrpc_polled::Timed;
 use ttrpc_proto::{Error, Result};
 
-/// What the program asks of the system.
+/// The parts of the system that the program uses.
 pub trait System: Timed + Wait + RandomSource + Net<Listener = TcpListener, Stream = TcpStream> {}
 
 impl<R: Timed + Wait + RandomSource + Net<Listener = TcpListener, Stream = TcpStream>> System

@@ -1,10 +1,10 @@
-//! What the program writes.
+//! The program's output.
 use crate::system::nix;
 use std::io::Write;
 use ttrpc_proto::{Error, Result};
 use ttrpc_wire::Blob;
 
-/// Writes `ok` and the answer's digits, or the error. Gives the status.
+/// Writes `ok` and the response's digits, or the error. Returns the status.
 pub fn tell_outcome<W: Write>(outcome: Result<Blob>, output: &mut W) -> Result<u8> {
     match outcome {
         Ok(answer) => {
@@ -23,7 +23,8 @@ pub fn tell_item<W: Write>(item: &Blob, output: &mut W) -> Result<()> {
     tell(output, "item", item)
 }
 
-/// Tells how a stream ended. Gives the status, which is 0 if it was closed.
+/// Writes how a stream ended: `eof` if it was closed, or else the error. Returns the status, which is 0 if it was
+/// closed.
 pub fn tell_end<W: Write>(error: Error, output: &mut W) -> Result<u8> {
     match error {
         Error::Eof => {

@@ -1,21 +1,21 @@
-//! Which words the program is called by.
+//! The words that the program is called by.
 use hex::FromHexError;
 use std::alloc::Global;
 use ttrpc_proto::{Error, Result};
 use ttrpc_wire::Blob;
 
-/// What the words ask for.
+/// The command that the words give.
 #[derive(Drop)]
 pub enum Asked<'a> {
-    /// To serve at an address, for so many seconds or until the program is killed.
+    /// Serves at an address, for this number of seconds or until the program is killed.
     Serves(&'a str, Option<u64>),
-    /// To call a server at an address.
+    /// Calls a server at an address.
     Calls(&'a str, Call),
-    /// Nothing that the program does.
+    /// The words give no command.
     Wrong,
 }
 
-/// What is called.
+/// A call, with its items or their count.
 #[derive(Drop)]
 pub enum Call {
     Unary(Blob),
@@ -24,7 +24,7 @@ pub enum Call {
     Count(u32),
 }
 
-/// Reads what these words ask for. An error is want of memory.
+/// Reads the command that these words give. Returns an error only if memory is refused.
 pub fn read_words(alloc: Global, words: &[String]) -> Result<Asked<'_>> {
     let [first, address, rest @ ..] = words else {
         return Ok(Asked::Wrong);
@@ -57,7 +57,7 @@ pub fn read_words(alloc: Global, words: &[String]) -> Result<Asked<'_>> {
     Ok(Asked::Calls(address, call))
 }
 
-/// Reads the bytes of all these words, if each has digits alone.
+/// Reads the bytes of all these words. Returns `None` if one of them isn't an even number of hexadecimal digits.
 fn all_bytes(alloc: Global, words: &[String]) -> Result<Option<Vec<Blob>>> {
     let mut items = Vec::new(alloc);
     for word in words {
@@ -69,7 +69,8 @@ fn all_bytes(alloc: Global, words: &[String]) -> Result<Option<Vec<Blob>>> {
     Ok(Some(items))
 }
 
-/// Reads the bytes of these hexadecimal digits, if there is an even number of digits and nothing else.
+/// Reads the bytes of these hexadecimal digits. Returns `None` if their number isn't even, or if there is anything
+/// else.
 fn bytes_of(alloc: Global, digits: &str) -> Result<Option<Blob>> {
     match hex::decode(alloc, digits) {
         Ok(bytes) => Ok(Some(Blob::from_vec(bytes))),

@@ -1,4 +1,4 @@
-//! What a table takes, and what `check` answers by it. The bytes are written by hand.
+//! The statuses that a table accepts, and the answers of `check` by it. The bytes are written by hand.
 use crate::check;
 use crate::messages::HealthCheckRequest;
 use crate::table::HealthTable;

@@ -12,14 +12,14 @@ use ttrpc::{Error, Request, Response, Status};
 /// One event, or the two that move bytes from one side to the other.
 #[derive(Clone, Copy)]
 pub enum Act {
-    /// A call of `Check` for this name, within so many nanoseconds.
+    /// A call of `Check` for this name, with this timeout in nanoseconds.
     Check(&'static str, i64),
     /// A call of `Other` for this name.
     Other(&'static str),
     Take,
     /// An answer to this job, as the table gives it to a request for this name.
     Answer(u64, &'static str),
-    /// An answer to this job that tells this status.
+    /// An answer to this job with this payload.
     AnswerStatus(u64, &'static [u8]),
     Outcome(u32),
     Tick(u64),
@@ -87,7 +87,8 @@ fn event_of(alloc: Global, table: &HealthTable, act: Act) -> Result<Event, Fail>
     }
 }
 
-/// Adds an event, if there is room. In a function of its own, since a value that isn't taken is let go here.
+/// Adds an event, and returns whether there was room. This is a function of its own, since a value that isn't taken is
+/// dropped here.
 fn push(events: &mut Vec<Event>, event: Event) -> bool {
     match events.push(event) {
         Ok(()) => true,
@@ -98,7 +99,7 @@ fn push(events: &mut Vec<Event>, event: Event) -> bool {
     }
 }
 
-/// Returns the events of these acts, whose answers are by this table.
+/// Returns the events of these acts, with answers by this table.
 pub fn events_of(alloc: Global, table: &HealthTable, acts: &[Act]) -> Result<Vec<Event>, Fail> {
     let mut events = Vec::new(alloc);
     for act in acts {

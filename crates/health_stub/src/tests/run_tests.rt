@@ -1,4 +1,4 @@
-//! What is reported of runs, event by event.
+//! The reports of runs, event by event.
 use crate::table::HealthTable;
 use crate::tests::answers_tests::table;
 use crate::tests::events::Act::{self, *};
@@ -8,10 +8,10 @@ use std::alloc::Global;
 use std::test::Fail;
 use ttrpc::cores::server::Rules;
 
-/// The calls of a list, each with its status; none where none is given.
+/// The calls of a list, each with its status, or `None` if no list is reported.
 type Expected = Option<&'static [(u32, i32)]>;
 
-/// A call whose outcome is told, and an end at which nothing moves. The request is 35 bytes long, and the response 16.
+/// A call with an outcome, and an end without more bytes to move. The request is 35 bytes long, and the response 16.
 const ONE_CALL: &[Act] = &[
     Check("a", 0),
     CarryUp(35),
@@ -40,7 +40,7 @@ const ANY_LENGTH: &[Act] = &[
     Outcome(1),
 ];
 
-/// Two calls, answered and told in the other order.
+/// Two calls, with answers and outcomes in the other order.
 const OTHER_ORDER: &[Act] = &[
     Check("a", 0),
     Check("c", 0),
@@ -80,7 +80,7 @@ const NOT_THERE: &[Act] = &[
     Outcome(1),
 ];
 
-/// An answer that tells another status than the table's last, and one that is another name's.
+/// An answer with another status than the table's last, and the answer for another name.
 const OTHER_STATUS: &[Act] = &[
     Check("a", 0),
     CarryUp(99),
@@ -177,7 +177,7 @@ fn one_call_is_told_its_status(rt: HostRuntime) -> Result<(), Fail> {
     Ok(())
 }
 
-/// For `tools/refuse-memory`: an event that finds no memory is replied so, and the call is then told nothing.
+/// For `tools/refuse-memory`: an event with refused memory has that as its reply, and the call then has no outcome.
 #[test]
 fn refused_memory_is_an_error_or_leaves_the_call_out(rt: HostRuntime) -> Result<(), Fail> {
     let table = table(rt.alloc())?;

@@ -1,4 +1,4 @@
-//! Worlds whose server has the methods `Check` and `Other` of `demo.Health`.
+//! Worlds with a server that has the methods `Check` and `Other` of `demo.Health`.
 ghost use Rattle.std.specs.Prelude.{◌≡◌, codes, true, IfOk};
 ghost use Rattle.ttrpc_server.specs.State.{has_method};
 
@@ -15,7 +15,7 @@ use ttrpc::security_extension::{ConnectionContext, plain_context};
 use ttrpc_bench::stamps;
 use ttrpc_secure::plain::plain_is_paired;
 
-/// What is reported of a run.
+/// The report of a run.
 pub type Report = Option<Statuses>;
 
 /// The halves that a run goes over.
@@ -28,7 +28,8 @@ pub enum Over {
 
 /// Makes the methods of the server.
 fn registry(alloc: Global) -> Result<Registry>
-    ensures { IfOk result (λ registry. has_method registry (codes "demo.Health") (codes "Check") ≡ true) }
+    ensures { IfOk result
+        (λ registry. has_method registry (codes "demo.Health") (codes "Check") ≡ true) }
 {
     let mut registry = Registry::new(alloc);
     registry.add_method(
@@ -53,8 +54,8 @@ fn over_plain(
 ) -> Result<Report> {
     plain_is_paired();
     let registry = registry(alloc)?;
-    let client = ClientCore::new(alloc, ClientKind::Async, plain_context(alloc));
-    let server = ServerCore::new(alloc, rules, registry, plain_context(alloc));
+    let client = ClientCore::new(alloc, ClientKind::Async, plain_context(alloc))?;
+    let server = ServerCore::new(alloc, rules, registry, plain_context(alloc))?;
     run_health(alloc, World::new(alloc, client, server), events, table)
 }
 
@@ -70,8 +71,8 @@ fn over_stamps(
     let (down_out, down_in) = stamps();
     let up = ConnectionContext::of_halves(alloc, up_out, down_in);
     let down = ConnectionContext::of_halves(alloc, down_out, up_in);
-    let client = ClientCore::new(alloc, ClientKind::Async, up);
-    let server = ServerCore::new(alloc, rules, registry, down);
+    let client = ClientCore::new(alloc, ClientKind::Async, up)?;
+    let server = ServerCore::new(alloc, rules, registry, down)?;
     run_health(alloc, World::new(alloc, client, server), events, table)
 }
 

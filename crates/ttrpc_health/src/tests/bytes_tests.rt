@@ -1,13 +1,13 @@
-//! What the program's server answers, byte by byte.
+//! The answers of the program's server, byte by byte.
 use crate::tests::peers::health_server;
 use std::io::{self, Read, Write};
 use std::net::{Shutdown, TcpListener, TcpStream};
 use std::test::Fail;
 
-/// What is said, and what is heard then.
+/// The bytes that are written, and those that are read then.
 type Exchange = (&'static [u8], &'static [u8]);
 
-/// A request under the id 1, and the frames that answer it.
+/// A request with the id 1, and the frames of its answer.
 const EXCHANGES: &[Exchange] = &[
     // `Check` of `a`, and of `b`.
     (
@@ -18,7 +18,7 @@ const EXCHANGES: &[Exchange] = &[
         b"\0\0\0\x19\0\0\0\x01\x01\0\x0a\x0bdemo.Health\x12\x05Check\x1a\x03\x0a\x01b",
         b"\0\0\0\x1a\0\0\0\x01\x02\0\x0a\x18\x08\x05\x12\x14service b is unknown",
     ),
-    // A payload that means no request.
+    // A payload that is no request.
     (
         b"\0\0\0\x19\0\0\0\x01\x01\0\x0a\x0bdemo.Health\x12\x05Check\x1a\x03\x0a\x01\xff",
         b"\0\0\0\x18\0\0\0\x01\x02\0\x0a\x16\x08\x02\x12\x12unreadable request",
@@ -28,7 +28,7 @@ const EXCHANGES: &[Exchange] = &[
         b"\0\0\0\x19\0\0\0\x01\x01\x01\x0a\x0bdemo.Health\x12\x05Watch\x1a\x03\x0a\x01a",
         b"\0\0\0\x02\0\0\0\x01\x03\0\x08\x02\0\0\0\x02\0\0\0\x01\x03\0\x08\x01\0\0\0\0\0\0\0\x01\x03\x05",
     ),
-    // `Watch` of `b`, and of a payload that means no request.
+    // `Watch` of `b`, and of a payload that is no request.
     (
         b"\0\0\0\x19\0\0\0\x01\x01\x01\x0a\x0bdemo.Health\x12\x05Watch\x1a\x03\x0a\x01b",
         b"\0\0\0\x1a\0\0\0\x01\x02\0\x0a\x18\x08\x05\x12\x14service b is unknown",
@@ -47,7 +47,7 @@ fn hears(stream: &mut TcpStream, expected: &[u8]) -> io::Result<bool> {
     Ok(heard.get(..room) == Some(expected))
 }
 
-/// Returns whether the answer comes, and then, after the end of what is said, no more.
+/// Returns whether the answer comes, and no more bytes come after the client has closed its half.
 fn talks(stream: &mut TcpStream, exchange: &Exchange) -> io::Result<bool> {
     let (said, answer) = exchange;
     stream.write_all(said)?;
@@ -61,7 +61,7 @@ fn talks(stream: &mut TcpStream, exchange: &Exchange) -> io::Result<bool> {
 
 #[test]
 fn bytes_have_their_answers(rt: HostRuntime) -> Result<(), Fail> {
-    // The check of borrows covers a call over sockets only where their types are named here, too.
+    // The borrow check covers a call over sockets only if this function names their types, too.
     let _sockets: Option<(TcpListener, TcpStream)> = None;
     let server = health_server(&rt, EXCHANGES.len())?;
     for exchange in EXCHANGES {

@@ -1,4 +1,4 @@
-//! Servers in threads of their own.
+//! Servers, each in its own thread.
 use crate::apart::{Served, serve_apart};
 use crate::system::{System, nix};
 use health_stub::HealthTable;
@@ -9,12 +9,12 @@ use std::test::Fail;
 use std::thread::{Builder, Threads};
 use ttrpc_proto::Result;
 
-/// Makes an address in the form of the program's words.
+/// Returns an address in the form of the program's words.
 pub fn word_of(alloc: Global, address: SocketAddr) -> std::result::Result<String, Fail> {
     Ok(format!(in alloc; "tcp://{address}")?)
 }
 
-/// Serves so many connections at a free port, with `a` at 2 and then 1.
+/// Starts a server of `count` connections at a free port, with `a` at 2 and then 1.
 pub fn health_server<R: System + Threads + Send + 'static>(
     rt: &R,
     count: usize,
@@ -24,10 +24,11 @@ pub fn health_server<R: System + Threads + Send + 'static>(
     Ok(serve_apart(rt, table, true, count)?)
 }
 
-/// The first status that a watch of `a` is sent.
+/// The first status of a watch of `a`.
 const CUT: &[u8] = b"\0\0\0\x02\0\0\0\x01\x03\0\x08\x02";
 
-/// Serves one connection at a free port, which reads a request of `Watch` for `a`, and ends after the first status.
+/// Starts a server of one connection at a free port. It reads a request of `Watch` for `a`, and ends after the first
+/// status.
 pub fn cut_server<R: System + Threads + Send + 'static>(
     rt: &R,
 ) -> std::result::Result<Served, Fail> {

@@ -1,11 +1,11 @@
-//! Runs of the program at its words.
+//! Runs of the program's commands.
 use crate::program::run;
 use crate::system::System;
 use std::alloc::Global;
 use std::test::Fail;
 use std::thread::Threads;
 
-/// Makes the words of a run, of which `@` stands for this address.
+/// Returns the words of a run. The word `@` is replaced by this address.
 fn words_of(alloc: Global, words: &[&str], address: &str) -> Result<Vec<String>, Fail> {
     let mut list = Vec::new(alloc);
     for word in words {
@@ -15,7 +15,7 @@ fn words_of(alloc: Global, words: &[&str], address: &str) -> Result<Vec<String>,
     Ok(list)
 }
 
-/// Returns whether the program ends with this status, after it wrote this, and what it told of faults begins so.
+/// Returns whether the program ends with this status and this output, and its reports of faults begin with these bytes.
 pub fn is_so<R: System + Threads + Send + 'static>(
     rt: &R,
     address: &str,

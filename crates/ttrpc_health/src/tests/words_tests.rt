@@ -1,4 +1,4 @@
-//! The words of the program, at servers of its own and at others.
+//! The words of the program, with its own servers and with others.
 use crate::program::{server_at, tell_address};
 use crate::tests::peers::{cut_server, health_server, word_of};
 use crate::tests::runs::is_so;
@@ -7,7 +7,7 @@ use std::net::{TcpListener, TcpStream};
 use std::test::Fail;
 use tokio::runtime::LocalRuntime;
 
-/// A run that tells no fault: its words, its status, and what it writes.
+/// A run without faults: its words, its status, and its output.
 type Run = (&'static [&'static str], u8, &'static [u8]);
 
 const USAGE: &[u8] =
@@ -15,7 +15,7 @@ const USAGE: &[u8] =
 
 const UNKNOWN: &[u8] = b"error: rpc status: 5 service b is unknown\n";
 
-/// Runs that serve on a port of their own.
+/// Runs that serve at their own port.
 const LOOPS: &[Run] = &[
     (&["loop", "a", "a=2,1"], 0, b"1\n2\n1\n"),
     (&["loop", "b", "a=1", "b=3,0"], 0, b"0\n3\n0\n"),
@@ -25,7 +25,7 @@ const LOOPS: &[Run] = &[
     (&["loop", "b", "a=1"], 1, UNKNOWN),
 ];
 
-/// Runs at a server whose table has `a` with 2 and 1.
+/// Runs with a server that has a table of `a` with 2 and 1.
 const CALLS: &[Run] = &[
     (&["check", "@", "a"], 0, b"1\n"),
     (&["watch", "@", "a"], 0, b"2\n1\n"),
@@ -52,7 +52,7 @@ const WRONG: &[&[&str]] = &[
 
 #[test]
 fn a_name_is_told_by_a_server_of_its_own(rt: HostRuntime) -> Result<(), Fail> {
-    // The check of borrows covers a call over sockets only where their types are named here, too.
+    // The borrow check covers a call over sockets only if this function names their types, too.
     let _sockets: Option<(TcpListener, TcpStream)> = None;
     for (words, status, written) in LOOPS {
         assert!(rt; is_so(&rt, "", words, *status, written, b"")?, "{words:?}");
@@ -62,7 +62,7 @@ fn a_name_is_told_by_a_server_of_its_own(rt: HostRuntime) -> Result<(), Fail> {
 
 #[test]
 fn a_name_is_told_by_another_server(rt: HostRuntime) -> Result<(), Fail> {
-    // The check of borrows covers a call over sockets only where their types are named here, too.
+    // The borrow check covers a call over sockets only if this function names their types, too.
     let _sockets: Option<(TcpListener, TcpStream)> = None;
     let server = health_server(&rt, CALLS.len())?;
     let address = word_of(rt.alloc(), server.address)?;
@@ -78,7 +78,7 @@ fn a_name_is_told_by_another_server(rt: HostRuntime) -> Result<(), Fail> {
 
 #[test]
 fn a_watch_that_is_cut_off_tells_no_end(rt: HostRuntime) -> Result<(), Fail> {
-    // The check of borrows covers a call over sockets only where their types are named here, too.
+    // The borrow check covers a call over sockets only if this function names their types, too.
     let _sockets: Option<(TcpListener, TcpStream)> = None;
     let server = cut_server(&rt)?;
     let address = word_of(rt.alloc(), server.address)?;
@@ -90,7 +90,7 @@ fn a_watch_that_is_cut_off_tells_no_end(rt: HostRuntime) -> Result<(), Fail> {
 
 #[test]
 fn wrong_words_have_a_status_of_their_own(rt: HostRuntime) -> Result<(), Fail> {
-    // The check of borrows covers a call over sockets only where their types are named here, too.
+    // The borrow check covers a call over sockets only if this function names their types, too.
     let _sockets: Option<(TcpListener, TcpStream)> = None;
     for words in WRONG {
         assert!(rt; is_so(&rt, "", words, 2, b"", USAGE)?, "{words:?}");
@@ -100,7 +100,7 @@ fn wrong_words_have_a_status_of_their_own(rt: HostRuntime) -> Result<(), Fail> {
 
 #[test]
 fn an_address_that_nobody_serves_is_a_fault(rt: HostRuntime) -> Result<(), Fail> {
-    // The check of borrows covers a call over sockets only where their types are named here, too.
+    // The borrow check covers a call over sockets only if this function names their types, too.
     let _sockets: Option<(TcpListener, TcpStream)> = None;
     let words = ["check", "tcp://127.0.0.1:1", "a"];
     assert!(rt; is_so(&rt, "", &words, 1, b"", b"ttrpc-health: ")?);
@@ -109,7 +109,7 @@ fn an_address_that_nobody_serves_is_a_fault(rt: HostRuntime) -> Result<(), Fail>
 
 #[test]
 fn a_server_tells_where_it_listens(rt: HostRuntime) -> Result<(), Fail> {
-    // The check of borrows covers a call over sockets only where their types are named here, too.
+    // The borrow check covers a call over sockets only if this function names their types, too.
     let _sockets: Option<(TcpListener, TcpStream)> = None;
     let runtime = LocalRuntime::new(&rt)?;
     let table = HealthTable::new(rt.alloc());
