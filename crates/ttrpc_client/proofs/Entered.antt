@@ -1,5 +1,5 @@
 -- What the state of every client keeps of its streams, through each change.
-use Rattle.ttrpc_client.proofs.Words.{arith, cases_eq, inl, inr, ◌⊎◌, Err, Ok, ◌≡◌, ◌≢◌, ◌<◌, ◌≤◌, ◌+◌, ◌-◌, ◌%◌, ◌&&◌, ◌∙◌, not, ℕ, List, [], ◌∷◌, Option, Some, None, Result, true, false, refl, sym, ap, subst, is_at, nat_cmp, remove_entry, Call, Stream, AreStreams, StreamsStay, AdmitsStream, Client, ClientCore, Error, IsClient, MayRefuse, length, OutboundTransform, Queued, associated, stream_at, OthersStay, by_ranked, call_in, ranked, stream_in, waits}
+use Rattle.ttrpc_client.proofs.Words.{arith, cases_eq, inl, inr, ◌⊎◌, Err, Ok, ◌≡◌, ◌≢◌, ◌<◌, ◌≤◌, ◌+◌, ◌-◌, ◌%◌, ◌&&◌, ◌∙◌, not, ℕ, List, [], ◌∷◌, Option, Some, None, Result, true, false, refl, sym, ap, subst, is_at, nat_cmp, remove_entry, CallState, StreamState, AreStreams, StreamsStay, AdmitsStream, Client, ClientCore, Error, IsClient, MayRefuse, length, OutboundTransform, Queued, associated, stream_at, OthersStay, by_ranked, call_in, ranked, stream_in, waits}
 use Rattle.std.specs.Prelude.{nat_le, nat_lt}
 use Rattle.std.specs.BTreeSet.{insert_key}
 use Rattle.std.specs.List.{list_any}
@@ -20,22 +20,22 @@ use Rattle.ttrpc_client.proofs.Entries.{at_or_apart, same_place, undone}
 -- ---- calls change
 
 -- where no call of another id is kept than before, none is that of a stream
-fewer_calls : (next : ℕ) (old new : List (ℕ × Call)) (streams : List (ℕ × Stream)) → AreStreams next old streams → ((k : ℕ) → call_in new k ≢ None → call_in old k ≢ None) → AreStreams next new streams
+fewer_calls : (next : ℕ) (old new : List (ℕ × CallState)) (streams : List (ℕ × StreamState)) → AreStreams next old streams → ((k : ℕ) → call_in new k ≢ None → call_in old k ≢ None) → AreStreams next new streams
 fewer_calls next old new streams are fewer = record { fresh = are.fresh; odd_streams = are.odd_streams; apart = λ k some. are.apart k (fewer k some) }
 
-waits_there : (call : Option Call) → waits call ≡ true → call ≢ None
+waits_there : (call : Option CallState) → waits call ≡ true → call ≢ None
 waits_there None h none = cc
 waits_there (Some call) h none = cc
 
-pub ended_apart : (next : ℕ) (old new : List (ℕ × Call)) (streams : List (ℕ × Stream)) → AreStreams next old streams → (id : ℕ) → waits (call_in old id) ≡ true → OthersStay old id new → AreStreams next new streams
+pub ended_apart : (next : ℕ) (old new : List (ℕ × CallState)) (streams : List (ℕ × StreamState)) → AreStreams next old streams → (id : ℕ) → waits (call_in old id) ≡ true → OthersStay old id new → AreStreams next new streams
 ended_apart next old new streams are id was others = fewer_calls next old new streams are
     (at_or_apart (λ k. call_in new k ≢ None → call_in old k ≢ None) id (λ _. waits_there (call_in old id) was) (λ k apart some none. some (others k apart ∙ none)))
 
-pub gone_apart : (next : ℕ) (old new : List (ℕ × Call)) (streams : List (ℕ × Stream)) → AreStreams next old streams → (id : ℕ) → call_in new id ≡ None → OthersStay old id new → AreStreams next new streams
+pub gone_apart : (next : ℕ) (old new : List (ℕ × CallState)) (streams : List (ℕ × StreamState)) → AreStreams next old streams → (id : ℕ) → call_in new id ≡ None → OthersStay old id new → AreStreams next new streams
 gone_apart next old new streams are id gone others = fewer_calls next old new streams are
     (at_or_apart (λ k. call_in new k ≢ None → call_in old k ≢ None) id (λ some. absurd (some gone)) (λ k apart some none. some (others k apart ∙ none)))
 
-pub call_apart : (next : ℕ) (old new : List (ℕ × Call)) (streams : List (ℕ × Stream)) → AreStreams next old streams → (id : ℕ) → id ≡ next → OthersStay old id new → AreStreams (next + 2) new streams
+pub call_apart : (next : ℕ) (old new : List (ℕ × CallState)) (streams : List (ℕ × StreamState)) → AreStreams next old streams → (id : ℕ) → id ≡ next → OthersStay old id new → AreStreams (next + 2) new streams
 call_apart next old new streams are id is others = record {
   fresh = λ k le. are.fresh k (omega (arith, le));
   odd_streams = are.odd_streams;
@@ -45,7 +45,7 @@ call_apart next old new streams are id is others = record {
 -- ---- streams change
 
 -- no stream is at an id where none was
-pub no_more_streams : (next : ℕ) (calls : List (ℕ × Call)) (old new : List (ℕ × Stream)) → AreStreams next calls old → (id : ℕ) → (stream_in old id ≡ None → stream_in new id ≡ None) → StreamsStay old id new → AreStreams next calls new
+pub no_more_streams : (next : ℕ) (calls : List (ℕ × CallState)) (old new : List (ℕ × StreamState)) → AreStreams next calls old → (id : ℕ) → (stream_in old id ≡ None → stream_in new id ≡ None) → StreamsStay old id new → AreStreams next calls new
 no_more_streams next calls old new are id own others =
     let none : (k : ℕ) → stream_in old k ≡ None → stream_in new k ≡ None = at_or_apart (λ k. stream_in old k ≡ None → stream_in new k ≡ None) id own (λ k apart none. others k apart ∙ none) in
     record {
@@ -54,10 +54,10 @@ no_more_streams next calls old new are id own others =
       apart = λ k call. none k (are.apart k call);
     }
 
-pub gone_stream : (next : ℕ) (calls : List (ℕ × Call)) (old new : List (ℕ × Stream)) → AreStreams next calls old → (id : ℕ) → stream_in new id ≡ None → StreamsStay old id new → AreStreams next calls new
+pub gone_stream : (next : ℕ) (calls : List (ℕ × CallState)) (old new : List (ℕ × StreamState)) → AreStreams next calls old → (id : ℕ) → stream_in new id ≡ None → StreamsStay old id new → AreStreams next calls new
 gone_stream next calls old new are id gone others = no_more_streams next calls old new are id (λ _. gone) others
 
-pub stream_apart : (next : ℕ) (calls : List (ℕ × Call)) (old new : List (ℕ × Stream)) → IsClient next calls → AreStreams next calls old → (id : ℕ) → id ≡ next → StreamsStay old id new → AreStreams (next + 2) calls new
+pub stream_apart : (next : ℕ) (calls : List (ℕ × CallState)) (old new : List (ℕ × StreamState)) → IsClient next calls → AreStreams next calls old → (id : ℕ) → id ≡ next → StreamsStay old id new → AreStreams (next + 2) calls new
 stream_apart next calls old new valid are id is others = record {
   fresh = λ k le. let apart : k ≢ id = omega (arith, le, is) in others k apart ∙ are.fresh k (omega (arith, le));
   odd_streams = at_or_apart (λ k. stream_in new k ≢ None → k % 2 ≡ 1) id (λ _. subst (λ n. n % 2 ≡ 1) (sym is) valid.odd) (λ k apart some. are.odd_streams k (λ none. some (others k apart ∙ none)));
@@ -69,7 +69,7 @@ stream_apart next calls old new valid are id is others = record {
 same_client : (c : Client) (d : Client) → d.kind ≡ c.kind → d.next ≡ c.next → d.calls ≡ c.calls → d.ended ≡ c.ended → d.streams ≡ c.streams → d.heard ≡ c.heard → d ≡ c
 same_client c d p q r s t u = rw (p, q, r, s, t, u) refl
 
-pub stream_withdrawn : (old mid : Client) (id : ℕ) (stream : Stream) → AdmitsStream old id stream mid
+pub stream_withdrawn : (old mid : Client) (id : ℕ) (stream : StreamState) → AdmitsStream old id stream mid
     → record mid { next = mid.next - 2; streams = remove_entry (is_at (nat_cmp id)) mid.streams } ≡ old
 stream_withdrawn old mid id stream admits =
     let next_was : mid.next ≡ id + 2 = ap (λ (c : Client). c.next) admits.same in
@@ -82,7 +82,7 @@ stream_withdrawn old mid id stream admits =
     (ap (remove_entry (is_at (nat_cmp id))) admits.streams ∙ undone id stream old.streams admits.fresh)
     (ap (λ (c : Client). c.heard) admits.same)
 
-pub view_back : (old : Client) (streams : List (ℕ × Stream)) (heard : List ℕ) → streams ≡ old.streams → heard ≡ old.heard → record old { streams = streams; heard = heard } ≡ old
+pub view_back : (old : Client) (streams : List (ℕ × StreamState)) (heard : List ℕ) → streams ≡ old.streams → heard ≡ old.heard → record old { streams = streams; heard = heard } ≡ old
 view_back old streams heard p q = rw (p, q) refl
 
 -- ---- the last id that was given is free again
@@ -101,7 +101,7 @@ none_from next id at is odd fresh odds none k le = elim (cases_eq k id) [
   ]
 ]
 
-pub client_below : (next id : ℕ) (calls : List (ℕ × Call)) → IsClient next calls → next ≡ id + 2 → call_in calls id ≡ None → IsClient (next - 2) calls
+pub client_below : (next id : ℕ) (calls : List (ℕ × CallState)) → IsClient next calls → next ≡ id + 2 → call_in calls id ≡ None → IsClient (next - 2) calls
 client_below next id calls valid is none =
     let odd = valid.odd in
     let range = valid.in_range in
@@ -113,7 +113,7 @@ client_below next id calls valid is none =
       odd_calls = valid.odd_calls;
     }
 
-pub streams_below : (next id : ℕ) (calls : List (ℕ × Call)) (streams : List (ℕ × Stream)) → AreStreams next calls streams → next % 2 ≡ 1 → next ≡ id + 2 → stream_in streams id ≡ None → AreStreams (next - 2) calls streams
+pub streams_below : (next id : ℕ) (calls : List (ℕ × CallState)) (streams : List (ℕ × StreamState)) → AreStreams next calls streams → next % 2 ≡ 1 → next ≡ id + 2 → stream_in streams id ≡ None → AreStreams (next - 2) calls streams
 streams_below next id calls streams are odd is none =
     let below : next - 2 ≡ id = omega (arith, is) in
     record {
@@ -130,7 +130,7 @@ on_err (Err x) h so = so h
 
 -- ---- a stream that may not be sent on
 
-pub closed_is : (s : Option Stream) (t : Stream) → s ≡ Some t → t.streaming_client ≡ true → (t.sender ≡ Closed) ⊎ (t.sender ≡ Dropped) → unsendable s ≡ Some LocalClosed
+pub closed_is : (s : Option StreamState) (t : StreamState) → s ≡ Some t → t.streaming_client ≡ true → (t.sender ≡ Closed) ⊎ (t.sender ≡ Dropped) → unsendable s ≡ Some LocalClosed
 closed_is s t is client (inl closed) = rw (is, client, closed) refl
 closed_is s t is client (inr dropped) = rw (is, client, dropped) refl
 

@@ -1,11 +1,11 @@
 -- The outcome of a call is given once.
-use Rattle.ttrpc_client.proofs.Words.{cases_eq, cases_lt, eq-eqb, ne_eqb, arith, ◌≡◌, ◌≢◌, ◌⊎◌, inl, inr, ℕ, ◌<◌, ◌≤◌, List, [], ◌∷◌, ◌++◌, length, length-append, Option, Some, None, is_some, Result, Bool, refl, sym, ap, subst, ◌∙◌, Error, Happening, OutboundTransform, InboundTransform, Connection, Failure, ACall, Call, Waiting, ClientCore, Called, Told, asked_by, called, core, ids_asked, ids_used, used_by, outcomes_of, told_by, Client, IsClient, call_at, GivesOutcome, TakesOutcome, calling, left_of, Did, Calls, Runs, all_in_front, all_behind}
+use Rattle.ttrpc_client.proofs.Words.{cases_eq, cases_lt, eq-eqb, ne_eqb, arith, ◌≡◌, ◌≢◌, ◌⊎◌, inl, inr, ℕ, ◌<◌, ◌≤◌, List, [], ◌∷◌, ◌++◌, length, length-append, Option, Some, None, is_some, Result, Bool, refl, sym, ap, subst, ◌∙◌, Error, Happening, OutboundTransform, InboundTransform, Connection, Failure, ACall, CallState, Waiting, ClientCore, Called, Told, asked_by, called, core, ids_asked, ids_used, used_by, outcomes_of, told_by, Client, IsClient, call_at, GivesOutcome, TakesOutcome, calling, left_of, Did, Calls, Runs, all_in_front, all_behind}
 use Rattle.ttrpc_proto.specs.declared.messages.Response.{Response}
 use Rattle.ttrpc_client.proofs.Turning.{Leaves, call_leaves, leaves_valid, run_leaves}
 use Rattle.ttrpc_client.proofs.Rising.{Apart, all_within, never_below, rise_up}
 
 -- nothing is kept of a call whose outcome was given
-gone_by_giving : (failure : Option Failure) (call : Option Call) (outcome : Result Response Error) → GivesOutcome failure call (Some outcome) → left_of (is_some failure) call ≡ None
+gone_by_giving : (failure : Option Failure) (call : Option CallState) (outcome : Result Response Error) → GivesOutcome failure call (Some outcome) → left_of (is_some failure) call ≡ None
 gone_by_giving failure None outcome gives = refl
 gone_by_giving None (Some (Waiting deadline)) outcome gives = cc
 gone_by_giving (Some why) (Some (Waiting deadline)) outcome gives = refl

@@ -1,5 +1,5 @@
 -- What each call of a client leaves of its kind, of how far ids are used, and of ids of which nothing is kept.
-use Rattle.ttrpc_client.proofs.Words.{cases_eq, arith, ◌≡◌, ◌≢◌, inl, inr, ℕ, ◌+◌, ◌%◌, List, [], ◌∷◌, ◌++◌, Option, Some, None, is_some, Bool, refl, sym, ap, subst, ◌∙◌, AllByRecursion, Incoming, Happening, OutboundTransform, InboundTransform, Connection, Failure, ACall, Call, ClientCore, Called, Asked, Told, Dropped, Ticked, AskedEnded, Opened, SentOn, Received, ReceiverDropped, SenderDropped, AskedHeard, Passes, RiseByTwo, asked_by, called, core, ids_asked, ids_used, used_by, Client, IsClient, OthersStay, call_at, call_in, LandsOn, landing_of, LandsOnce, calling, expired_at, forgotten, left_of, Arrived, Gave, Did, Calls, Gives, Runs, ActsAll, Scene, scene, Sent, all_in_front, all_behind}
+use Rattle.ttrpc_client.proofs.Words.{cases_eq, arith, ◌≡◌, ◌≢◌, inl, inr, ℕ, ◌+◌, ◌%◌, List, [], ◌∷◌, ◌++◌, Option, Some, None, is_some, Bool, refl, sym, ap, subst, ◌∙◌, AllByRecursion, Incoming, Happening, OutboundTransform, InboundTransform, Connection, Failure, ACall, CallState, ClientCore, Called, Asked, Told, Dropped, Ticked, AskedEnded, Opened, SentOn, Received, ReceiverDropped, SenderDropped, AskedHeard, Passes, RiseByTwo, asked_by, called, core, ids_asked, ids_used, used_by, Client, IsClient, OthersStay, call_at, call_in, LandsOn, call_result_of, LandsOnce, calling, expired_at, forgotten, left_of, Arrived, Gave, Did, Calls, Gives, Runs, ActsAll, Scene, scene, Sent, all_in_front, all_behind}
 use Rattle.ttrpc_client.proofs.Entries.{at_or_apart}
 use Rattle.ttrpc_client.proofs.Rising.{Within, all_within, never_above, never_even, none_within, rise_both, rise_odd, rise_range, rise_up, within_both, within_itself}
 
@@ -24,7 +24,7 @@ one_stays id old new kind next others own =
 frame_stays : (old : Client) (a : Arrived) (sent : List Sent) (new : Client) → LandsOnce old a sent new → Stays old new
 frame_stays old a sent new lands =
     one_stays a.header.stream_id old new (ap (λ (s : Client). s.kind) lands.same) (ap (λ (s : Client). s.next) lands.same) lands.lands.others
-    (λ h. subst (λ c. LandsOn (landing_of a.header a.opening) c (call_at new a.header.stream_id)) h lands.lands.own)
+    (λ h. subst (λ c. LandsOn (call_result_of a.header a.opening) c (call_at new a.header.stream_id)) h lands.lands.own)
 
 acts_stay : {O I : Type 0} (out : OutboundTransform O) (in_ : InboundTransform I) (at : ℕ) (fs : List Incoming) (old new : Scene Client O I) → ActsAll (calling out in_) at old fs new → Stays old.state new.state
 acts_stay out in_ at [] old new same = stays old.state new.state (ap (λ (s : Scene Client _ _). s.state) same)
@@ -121,7 +121,7 @@ run_leaves out in_ seals (c ∷ cs) s old hs t new run =
 
 -- ---- what holds of every client goes on to hold
 
-odd_left : (used ids : List ℕ) (old new : Client) → Leaves used ids old new → IsClient old.next old.calls → (k : ℕ) (call : Option Call) → call_at old k ≡ call → call_at new k ≢ None → k % 2 ≡ 1
+odd_left : (used ids : List ℕ) (old new : Client) → Leaves used ids old new → IsClient old.next old.calls → (k : ℕ) (call : Option CallState) → call_at old k ≡ call → call_at new k ≢ None → k % 2 ≡ 1
 odd_left used ids old new l valid k (Some call) is some = valid.odd_calls k (λ none. let bad : Some call ≡ None = sym is ∙ none in cc)
 odd_left used ids old new l valid k None is some = elim (cases_eq (k % 2) 1) [
   | inl odd ↦ odd

@@ -18,12 +18,12 @@ pub use Rattle.ttrpc_connection.specs.Outbox.{Outbox}
 pub use Rattle.ttrpc_connection.proofs.Leaving.{goes_not, queued_goes, run_goes, run_leaves}
 pub use Rattle.ttrpc_connection.proofs.Words.{if◌then◌else◌, ℕ, ◌&&◌, ◌++◌, ◌+◌, ◌-◌, ◌<◌, ◌^◌, ◌∙◌, ◌∷◌, ◌≡◌, ◌≢◌, ◌≤◌, ◌⊎◌, [], ActsAll, after_all, all_behind, all_in_front, all_joined, AllByRecursion, and_right, ap, append-nil, append_assoc, append_cancel_left, AreLawful, arith, associated, begun_count, Bool, Calls, cases_Bool, cases_eq, cases_lt, cond_both, departing, Did, drop, eq-eqb, Equal, Equal-is, Err, Error, Failed, false, flat_map-append, frames_without, Gave, Gives, Goes, Happening, InboundTransform, Incoming, inl, inr, insert_entry, is_at, is_some, IsTold, length, length-append, Lent, List, list_any, lookup, map, nat_cmp, nat_cmp_is, nat_eq, ne_eqb, None, not, Ok, Option, OutboundTransform, Placed, Queue, Queued, refl, remove_entry, Reported, Result, rules, Runs, Scene, scene, SendsAll, Sent, Some, String, string_bytes, subst, sym, take, take-append-drop, true, values_of, with_payload, without}
 pub use Rattle.ttrpc_connection.specs.Calls.{Call as ACall}
-pub use Rattle.ttrpc_client.specs.Types.{Arrived, Call, CancelledDuringWrite, Connection, DeadlineDuringWrite, Expired, Failure, Stream, Waiting}
+pub use Rattle.ttrpc_client.specs.Types.{Arrived, CallState, CancelledDuringWrite, Connection, DeadlineDuringWrite, Expired, Failure, StreamState, Waiting}
 pub use Rattle.ttrpc_client.specs.declared.client.ClientCore.{ClientCore}
 pub use Rattle.ttrpc_client.specs.Calls.{AreQueuedOnce, Asked, asked_by, AskedEnded, AskedHeard, Called, called, Causes, core, Does, Dropped, ids_asked, ids_used, Opened, outcomes_of, Passes, Received, ReceiverDropped, requests_in, RiseByTwo, SenderDropped, SentOn, thrown_at, thrown_if, Ticked, Told, told_by, used_by}
 pub use Rattle.ttrpc_client.specs.State.{call_at, call_in, Client, IsClient, OthersStay, stream_at, throws, told_left, waits, due_at, due_ids, is_due, IsDeadline}
 pub use Rattle.ttrpc_client.specs.Streams.{AreStreams, stream_in, StreamsStay}
-pub use Rattle.ttrpc_client.specs.Protocol.{expired_at, Expires, forgotten, GivesOutcome, LandsOnce, left_of, taken_back, takes_back, TakesOutcome, Ticks, IsRequestFrame, Landing, landing_of, LandsOn, last_id}
+pub use Rattle.ttrpc_client.specs.Protocol.{expired_at, Expires, forgotten, GivesOutcome, LandsOnce, left_of, taken_back, takes_back, TakesOutcome, Ticks, IsRequestFrame, CallResult, call_result_of, LandsOn, last_id}
 pub use Rattle.ttrpc_client.specs.Inside.{calling, Admits, AdmitsStream, ExpiresOne, Leaves, MayRefuse, Settles}
 pub use Rattle.ttrpc_client.specs.Streaming.{IsOpeningFrame}
 pub use Rattle.ttrpc_client.specs.Kept.{AreDeadlines, deadline_in, IsKept, waiting_in, weight}

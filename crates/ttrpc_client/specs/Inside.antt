@@ -5,7 +5,7 @@ use Rattle.std.specs.Ordering.{nat_cmp}
 use Rattle.std.specs.List.Sorted.{IsStrictlySortedBy}
 use Rattle.std.specs.BTreeMap.{insert_entry, is_at}
 use Rattle.std.specs.Map.{keys_of, remove_entry}
-use Rattle.ttrpc_client.specs.Types.{Error, NoMemory as MemoryRefused, Queued, OutboundTransform, Request, Call, Waiting, Stream, Arrived, Failure}
+use Rattle.ttrpc_client.specs.Types.{Error, NoMemory as MemoryRefused, Queued, OutboundTransform, Request, CallState, Waiting, StreamState, Arrived, Failure}
 use Rattle.ttrpc_secure.specs.declared.transform.TransformError.{TransformError}
 use Rattle.ttrpc_secure.specs.declared.transform.TransformError.TheVariants.{Refused, NoMemory}
 use Rattle.ttrpc_proto.specs.Framing.Queue.{free}
@@ -51,7 +51,7 @@ pub record Admits (old : Client) (id : ℕ) (deadline : Option ℕ) (new : Clien
   pub same : new ≡ record old { next = id + 2; calls = new.calls }
 
 -- Holds if a new stream is kept.
-pub record AdmitsStream (old : Client) (id : ℕ) (stream : Stream) (new : Client) : Type 0 where
+pub record AdmitsStream (old : Client) (id : ℕ) (stream : StreamState) (new : Client) : Type 0 where
   pub fresh : stream_at old id ≡ None
   pub streams : new.streams ≡ insert_entry nat_cmp old.streams id stream
   pub own : stream_at new id ≡ Some stream
@@ -61,7 +61,7 @@ pub record AdmitsStream (old : Client) (id : ℕ) (stream : Stream) (new : Clien
   pub same : new ≡ record old { next = id + 2; streams = new.streams }
 
 -- Holds if a call that waited has ended in some way.
-pub record Settles (old : Client) (id : ℕ) (call : Call) (new : Client) : Type 0 where
+pub record Settles (old : Client) (id : ℕ) (call : CallState) (new : Client) : Type 0 where
   pub own : call_at new id ≡ Some call
   pub others : OthersStay old.calls id new.calls
   pub calls : new.calls ≡ insert_entry nat_cmp old.calls id call
@@ -82,7 +82,7 @@ pub record Leaves (old : Client) (id : ℕ) (new : Client) : Type 0 where
   pub same : new ≡ record old { calls = new.calls; ended = told_left new.calls old.ended }
 
 -- Returns the call if its outcome can be given, by whether the connection has failed.
-abbrev pub given_of : Bool → Option Call → Option Call
+abbrev pub given_of : Bool → Option CallState → Option CallState
 given_of failed call = if waits call && not failed then None else call
 
 -- Holds if the call of this id was taken out if its outcome can be given, and no other call changed.

@@ -10,7 +10,7 @@ use Rattle.std.specs.Ordering.{nat_cmp}
 use Rattle.ttrpc_wire.specs.Field.{fields_bytes}
 use Rattle.ttrpc_wire.specs.Fold.{read_from}
 use Rattle.ttrpc_wire.specs.declared.values.code.Code.TheVariants.{INVALID_ARGUMENT}
-use Rattle.ttrpc_client.specs.Types.{Error, Others, RpcStatus, NoMemory, NoRoom, Request, Response, Queued, OutboundTransform, Arrived, Failure, DeadlineDuringWrite, CancelledDuringWrite, Connection, Thing, Breaking, Closing, Last, Call, Waiting, Expired, Ended, ClientKind, Sync, Async, Stream}
+use Rattle.ttrpc_client.specs.Types.{Error, Others, RpcStatus, NoMemory, NoRoom, Request, Response, Queued, OutboundTransform, Arrived, Failure, DeadlineDuringWrite, CancelledDuringWrite, Connection, MailboxEntry, Breaking, Closing, Last, CallState, Waiting, Expired, Ended, ClientKind, Sync, Async, StreamState}
 use Rattle.ttrpc_proto.specs.declared.messages.Status.{Status}
 use Rattle.ttrpc_proto.specs.ErrorText.{status_of}
 use Rattle.ttrpc_proto.specs.Messages.{empty_response, request_fields, response_step}
@@ -21,8 +21,8 @@ use Rattle.ttrpc_proto.specs.Framing.Queue.{free, has_begun, without}
 use Rattle.ttrpc_secure.specs.Hooks.Facts.{Facts}
 use Rattle.ttrpc_secure.specs.Context.Texts.{advice_text, unopened_text, unsafe_payload_text, unsealed_text}
 use Rattle.ttrpc_secure.specs.Sends.{associated}
-use Rattle.ttrpc_connection.specs.declared.arrived.Opening.{Opening}
-use Rattle.ttrpc_connection.specs.declared.arrived.Opening.TheVariants.{TooLong, Opened, Refused}
+use Rattle.ttrpc_connection.specs.declared.arrived.InboundResult.{InboundResult}
+use Rattle.ttrpc_connection.specs.declared.arrived.InboundResult.TheVariants.{TooLong, Opened, Refused}
 use Rattle.ttrpc_connection.specs.Deadlines.{deadline_of}
 use Rattle.ttrpc_connection.specs.Failure.{IsTold, error_of, first_failure}
 use Rattle.ttrpc_connection.specs.Feeds.{IsFailed, new_connection}
@@ -30,17 +30,17 @@ use Rattle.ttrpc_connection.specs.Frames.{Sent, SendsOne, safe_limit}
 use Rattle.ttrpc_connection.specs.Things.{data_thing, has_flag}
 use Rattle.ttrpc_client.specs.declared.client.ClientCore.{ClientCore}
 use Rattle.ttrpc_client.specs.State.{Client, OthersStay, call_at, call_in, new_client, stream_at, throws, told_left, waits, is_due, due_at, due_ids}
-use Rattle.ttrpc_client.specs.Streams.{StreamsStay, hears, is_entered, stream_in, with_news}
+use Rattle.ttrpc_client.specs.Streams.{StreamsStay, hears, is_entered, stream_in, with_delivery}
 
 -- ---- the effect of a frame on the call of its id
 -- Source: PROTOCOL.md of ttrpc, "Response" and "Data"; errors and texts: the Rust crate.
 
 -- The effect of a frame on a call that waits.
-pub data Landing : Type 0 where
+pub data CallResult : Type 0 where
   -- this outcome
-  Gives : (outcome : Result Response Error) → Landing
+  Gives : (outcome : Result Response Error) → CallResult
   -- an error with a text that begins so and has any end
-  GivesBeginning : (text : List ℕ) → Landing
+  GivesBeginning : (text : List ℕ) → CallResult
 
 -- Returns the response, or its status as an error if the code isn't OK.
 abbrev pub by_code : ℤ → Status → Response → Result Response Error
@@ -53,35 +53,35 @@ by_status None r = Ok r
 by_status (Some s) r = by_code s.code s r
 
 -- Returns the effect of a response, or of bytes that can't be read as one.
-abbrev pub read_landing : Option Response → Landing
-read_landing None = GivesBeginning (codes "Unpack response error ")
-read_landing (Some r) = Gives (by_status r.status r)
+abbrev pub read_result : Option Response → CallResult
+read_result None = GivesBeginning (codes "Unpack response error ")
+read_result (Some r) = Gives (by_status r.status r)
 
 -- Returns the text of the error for a frame of an unexpected type.
 abbrev pub malformed_text : MessageHeader → List ℕ
 malformed_text h = codes "Receiver got malformed packet: type " ++ decimal h.type_ ++ codes ", flags " ++ decimal h.flags ++ codes ", stream " ++ decimal h.stream_id
 
 -- Returns the effect of a frame on a call that waits. The first test that fits counts.
-abbrev pub landing_of : MessageHeader → Opening → Landing
-landing_of h TooLong = Gives (Err (RpcStatus (status_of INVALID_ARGUMENT (oversize_text h.length))))
-landing_of h (Refused why) = Gives (Err (Others (unopened_text why)))
-landing_of h (Opened plain) =
+abbrev pub call_result_of : MessageHeader → InboundResult → CallResult
+call_result_of h TooLong = Gives (Err (RpcStatus (status_of INVALID_ARGUMENT (oversize_text h.length))))
+call_result_of h (Refused why) = Gives (Err (Others (unopened_text why)))
+call_result_of h (Opened plain) =
     if nat_lt MESSAGE_LENGTH_MAX (length plain) then Gives (Err (Others (oversize_text (length plain)))) else
-    if nat_eq h.type_ MESSAGE_TYPE_RESPONSE then read_landing (read_from response_step empty_response plain) else
+    if nat_eq h.type_ MESSAGE_TYPE_RESPONSE then read_result (read_from response_step empty_response plain) else
     Gives (Err (Others (malformed_text h)))
 
 -- Holds if the frame gives this outcome.
-abbrev pub IsLanding : Landing → Result Response Error → Type 0
-IsLanding (Gives given) outcome = outcome ≡ given
-IsLanding (GivesBeginning text) outcome = (rest : List ℕ) × (outcome ≡ Err (Others (text ++ rest)))
+abbrev pub IsCallResult : CallResult → Result Response Error → Type 0
+IsCallResult (Gives given) outcome = outcome ≡ given
+IsCallResult (GivesBeginning text) outcome = (rest : List ℕ) × (outcome ≡ Err (Others (text ++ rest)))
 
 -- Holds if a frame has this effect on a call: a call that waits ends with the outcome, and any other stays as it is.
-abbrev pub LandsOn : Landing → Option Call → Option Call → Type 0
-LandsOn landing (Some (Waiting deadline)) new = (outcome : Result Response Error) × IsLanding landing outcome × (new ≡ Some (Ended outcome))
+abbrev pub LandsOn : CallResult → Option CallState → Option CallState → Type 0
+LandsOn landing (Some (Waiting deadline)) new = (outcome : Result Response Error) × IsCallResult landing outcome × (new ≡ Some (Ended outcome))
 LandsOn landing old new = new ≡ old
 
 -- Holds if the frame has its effect on the call of this id, and on no other.
-pub record Lands (landing : Landing) (id : ℕ) (old new : List (ℕ × Call)) : Type 0 where
+pub record Lands (landing : CallResult) (id : ℕ) (old new : List (ℕ × CallState)) : Type 0 where
   pub own : LandsOn landing (call_in old id) (call_in new id)
   pub others : OthersStay old id new
 
@@ -89,56 +89,56 @@ pub record Lands (landing : Landing) (id : ℕ) (old new : List (ℕ × Call)) :
 -- Source: PROTOCOL.md of ttrpc, "Response", "Data" and "Streaming"; errors and texts: the Rust crate.
 
 -- The effect of a frame on a stream that no frame has ended.
-pub data News : Type 0 where
+pub data StreamDelivery : Type 0 where
   -- this thing, which ends the stream if `ends` is true
-  Brings : (thing : Thing) → (ends : Bool) → News
+  Brings : (thing : MailboxEntry) → (ends : Bool) → StreamDelivery
   -- an error that ends the stream, with a text that begins so and has any end
-  BringsBeginning : (text : List ℕ) → News
+  BringsBeginning : (text : List ℕ) → StreamDelivery
 
--- Returns the news of an error after which nothing is received.
-abbrev pub breaks_with : Error → News
+-- Returns the delivery of an error after which nothing is received.
+abbrev pub breaks_with : Error → StreamDelivery
 breaks_with error = Brings (Breaking error) true
 
--- Returns the news of a response, which closes the stream: with its payload as an item, or with its status as an error.
-abbrev pub closing_news : Result Response Error → News
-closing_news (Ok r) = Brings (Last r.payload) true
-closing_news (Err error) = Brings (Closing error) true
+-- Returns the delivery of a response, which closes the stream: with its payload as an item, or with its status as an error.
+abbrev pub closing_delivery : Result Response Error → StreamDelivery
+closing_delivery (Ok r) = Brings (Last r.payload) true
+closing_delivery (Err error) = Brings (Closing error) true
 
--- Returns the news of a response, or of bytes that can't be read as one.
-abbrev pub response_news : Option Response → News
-response_news None = BringsBeginning (codes "Decode message failed. ")
-response_news (Some r) = closing_news (by_status r.status r)
+-- Returns the delivery of a response, or of bytes that can't be read as one.
+abbrev pub response_delivery : Option Response → StreamDelivery
+response_delivery None = BringsBeginning (codes "Decode message failed. ")
+response_delivery (Some r) = closing_delivery (by_status r.status r)
 
--- Returns the news of data: an item or an end, or an error if the stream was opened to receive none. Data with the flag that closes end the
+-- Returns the delivery of data: an item or an end, or an error if the stream was opened to receive none. Data with the flag that closes end the
 -- stream.
-abbrev pub data_news : Bool → MessageHeader → List ℕ → News
-data_news true h plain = Brings (data_thing h.stream_id h.flags plain) (has_flag FLAG_REMOTE_CLOSED h.flags)
-data_news false h plain = Brings (Closing (Others (codes "received data from non-streaming server."))) (has_flag FLAG_REMOTE_CLOSED h.flags)
+abbrev pub data_delivery : Bool → MessageHeader → List ℕ → StreamDelivery
+data_delivery true h plain = Brings (data_thing h.stream_id h.flags plain) (has_flag FLAG_REMOTE_CLOSED h.flags)
+data_delivery false h plain = Brings (Closing (Others (codes "received data from non-streaming server."))) (has_flag FLAG_REMOTE_CLOSED h.flags)
 
--- Returns the news of a frame, by whether the stream was opened to receive items. The first test that fits counts.
-abbrev pub news_of : Bool → MessageHeader → Opening → News
-news_of streaming_server h TooLong = breaks_with (RpcStatus (status_of INVALID_ARGUMENT (oversize_text h.length)))
-news_of streaming_server h (Refused why) = breaks_with (Others (unopened_text why))
-news_of streaming_server h (Opened plain) =
+-- Returns the delivery of a frame, by whether the stream was opened to receive items. The first test that fits counts.
+abbrev pub delivery_of : Bool → MessageHeader → InboundResult → StreamDelivery
+delivery_of streaming_server h TooLong = breaks_with (RpcStatus (status_of INVALID_ARGUMENT (oversize_text h.length)))
+delivery_of streaming_server h (Refused why) = breaks_with (Others (unopened_text why))
+delivery_of streaming_server h (Opened plain) =
     if nat_lt MESSAGE_LENGTH_MAX (length plain) then breaks_with (Others (oversize_text (length plain))) else
-    if nat_eq h.type_ MESSAGE_TYPE_RESPONSE then response_news (read_from response_step empty_response plain) else
-    if nat_eq h.type_ MESSAGE_TYPE_DATA then data_news streaming_server h plain else
+    if nat_eq h.type_ MESSAGE_TYPE_RESPONSE then response_delivery (read_from response_step empty_response plain) else
+    if nat_eq h.type_ MESSAGE_TYPE_DATA then data_delivery streaming_server h plain else
     breaks_with (Others (malformed_text h))
 
--- Holds if the news are this thing, and end the stream or not.
-abbrev pub IsNews : News → Thing → Bool → Type 0
-IsNews (Brings x end) thing ends = (thing ≡ x) × (ends ≡ end)
-IsNews (BringsBeginning text) thing ends = ((rest : List ℕ) × (thing ≡ Closing (Others (text ++ rest)))) × (ends ≡ true)
+-- Holds if the delivery is this thing, and ends the stream or not.
+abbrev pub IsDelivery : StreamDelivery → MailboxEntry → Bool → Type 0
+IsDelivery (Brings x end) thing ends = (thing ≡ x) × (ends ≡ end)
+IsDelivery (BringsBeginning text) thing ends = ((rest : List ℕ) × (thing ≡ Closing (Others (text ++ rest)))) × (ends ≡ true)
 
--- Holds if a frame has this effect on a stream: its mailbox has the news, unless there is no such stream or a frame has ended it.
-abbrev pub Reaches : Bool → MessageHeader → Opening → Option Stream → Option Stream → Type 0
+-- Holds if a frame has this effect on a stream: its mailbox has the delivery, unless there is no such stream or a frame has ended it.
+abbrev pub Reaches : Bool → MessageHeader → InboundResult → Option StreamState → Option StreamState → Type 0
 Reaches false h opening old new = new ≡ old
 Reaches true h opening None new = new ≡ None
 Reaches true h opening (Some s) new =
-    (thing : Thing) × (ends : Bool) × IsNews (news_of s.streaming_server h opening) thing ends × (new ≡ Some (with_news thing ends s))
+    (thing : MailboxEntry) × (ends : Bool) × IsDelivery (delivery_of s.streaming_server h opening) thing ends × (new ≡ Some (with_delivery thing ends s))
 
 -- Holds if a frame has its effect on the stream of its id, and on no other.
-pub record ReachesOne (h : MessageHeader) (opening : Opening) (old new : List (ℕ × Stream)) : Type 0 where
+pub record ReachesOne (h : MessageHeader) (opening : InboundResult) (old new : List (ℕ × StreamState)) : Type 0 where
   pub own : Reaches (is_entered (stream_in old h.stream_id)) h opening (stream_in old h.stream_id) (stream_in new h.stream_id)
   pub others : StreamsStay old h.stream_id new
 
@@ -146,16 +146,16 @@ pub record ReachesOne (h : MessageHeader) (opening : Opening) (old new : List (�
 -- Source: PROTOCOL.md of ttrpc, "Response".
 
 -- Returns the id of a call that a frame ends, to be reported, if the call waited.
-abbrev pub ended_by : Option Call → ℕ → List ℕ
+abbrev pub ended_by : Option CallState → ℕ → List ℕ
 ended_by call id = if waits call then id ∷ [] else []
 
 -- Returns the ids of streams for which something came. This id is added if a frame under it brings the stream's receiver something.
-abbrev pub heard_with : Option Stream → ℕ → List ℕ → List ℕ
+abbrev pub heard_with : Option StreamState → ℕ → List ℕ → List ℕ
 heard_with stream id heard = if hears stream then insert_key nat_cmp heard id else heard
 
 -- Holds if a frame has its effect on the call or the stream of its id, and nothing is sent.
 pub record LandsOnce (old : Client) (a : Arrived) (sent : List Sent) (new : Client) : Type 0 where
-  pub lands : Lands (landing_of a.header a.opening) a.header.stream_id old.calls new.calls
+  pub lands : Lands (call_result_of a.header a.opening) a.header.stream_id old.calls new.calls
   pub reaches : ReachesOne a.header a.opening old.streams new.streams
   pub same : new ≡ record old {
     calls = new.calls;
@@ -222,7 +222,7 @@ expired_error = Others (codes "Request deadline elapsed")
 
 -- Holds if this is the result of asking for the outcome of a call. After a failure of the connection, the failure is the outcome of each
 -- call that waits.
-abbrev pub GivesOutcome : Option Failure → Option Call → Option (Result Response Error) → Type 0
+abbrev pub GivesOutcome : Option Failure → Option CallState → Option (Result Response Error) → Type 0
 GivesOutcome failure None given = given ≡ None
 GivesOutcome None (Some (Waiting deadline)) given = given ≡ None
 GivesOutcome (Some why) (Some (Waiting deadline)) given = TellsOutcome (error_of why) given
@@ -231,11 +231,11 @@ GivesOutcome failure (Some (Ended outcome)) given = given ≡ Some outcome
 
 -- Returns the call that is left after its outcome was asked for, by whether the connection has failed: none, unless the call goes on to
 -- wait.
-abbrev pub left_of : Bool → Option Call → Option Call
+abbrev pub left_of : Bool → Option CallState → Option CallState
 left_of failed call = if waits call && not failed then call else None
 
 -- Returns the core with these calls, and with the ended calls that are still to be reported.
-abbrev pub with_calls : {O I : Type 0} → ClientCore O I → List (ℕ × Call) → ClientCore O I
+abbrev pub with_calls : {O I : Type 0} → ClientCore O I → List (ℕ × CallState) → ClientCore O I
 with_calls c calls = record c { state = record c.state { calls = calls; ended = told_left calls c.state.ended } }
 
 -- Holds if the outcome of a call was asked for, and given if there was one.
@@ -249,7 +249,7 @@ pub record TakesOutcome {O I : Type 0} (old : ClientCore O I) (id : ℕ) (given 
 -- Source: this project's.
 
 -- Returns the call of an id after a moment has come: a call that is due has expired, and any other stays as it is.
-abbrev pub expired_at : ℕ → Option Call → Option Call
+abbrev pub expired_at : ℕ → Option CallState → Option CallState
 expired_at now None = None
 expired_at now (Some call) = Some (if is_due now call then Expired else call)
 
@@ -278,7 +278,7 @@ pub record Ticks {O I : Type 0} (seals : Bool) (old : ClientCore O I) (now : ℕ
 -- Source: this project's.
 
 -- Returns the call that is left after it was dropped: none.
-abbrev pub forgotten : Option Call → Option Call
+abbrev pub forgotten : Option CallState → Option CallState
 forgotten call = None
 
 -- Returns true if dropping the call takes its request back: the connection hasn't failed, requests may be thrown away, and the call still

@@ -6,7 +6,7 @@ use Rattle.std.specs.BTreeMap.{is_at}
 use Rattle.std.specs.Ordering.{nat_cmp}
 use Rattle.std.specs.Set.{remove_key}
 use Rattle.ttrpc_wire.specs.declared.values.code.Code.TheVariants.{INVALID_ARGUMENT}
-use Rattle.ttrpc_client.specs.Types.{Error, LocalClosed, Others, RpcStatus, NoMemory, Request, Queued, OutboundTransform, Failure, Stream, Sender, Open, Closed, Dropped}
+use Rattle.ttrpc_client.specs.Types.{Error, LocalClosed, Others, RpcStatus, NoMemory, Request, Queued, OutboundTransform, Failure, StreamState, Sender, Open, Closed, Dropped}
 use Rattle.ttrpc_proto.specs.ErrorText.{status_of}
 use Rattle.ttrpc_proto.specs.declared.framing.header.TheConstants.{FLAG_NO_DATA, FLAG_REMOTE_CLOSED, FLAG_REMOTE_OPEN, MESSAGE_TYPE_REQUEST}
 use Rattle.ttrpc_connection.specs.Failure.{IsTold}
@@ -89,7 +89,7 @@ closed_error Closed = Some LocalClosed
 closed_error Dropped = Some LocalClosed
 
 -- Returns the error why nothing may be sent on a stream, if there is one. The first test that fits counts.
-abbrev pub unsendable : Option Stream → Option Error
+abbrev pub unsendable : Option StreamState → Option Error
 unsendable None = Some unknown_error
 unsendable (Some s) = if s.streaming_client then closed_error s.sender else Some unsendable_error
 
@@ -127,7 +127,7 @@ RefusesSending out old id flags plain told =
 -- Source: PROTOCOL.md of ttrpc, "Streaming"; the table of a mailbox is `Mail` of the connection's specs.
 
 -- Holds if this is the result of a call to receive from a stream. The connection's failure comes after all things that came.
-abbrev pub ReceivesAt : Option Failure → Option Stream → Option (Result (List ℕ) Error) → Option Stream → Type 0
+abbrev pub ReceivesAt : Option Failure → Option StreamState → Option (Result (List ℕ) Error) → Option StreamState → Type 0
 ReceivesAt failure None given new = ((told : Error) × IsTold unknown_error told × (given ≡ Some (Err told))) × (new ≡ None)
 ReceivesAt failure (Some s) given new = (m : Mail) × Receives failure s.mailbox given m × (new ≡ Some (record s { mailbox = m }))
 

@@ -10,7 +10,7 @@ pub type CallId = u32;
 
 /// The state that is kept of a call until its outcome is taken.
 #[derive(Debug, Drop)]
-pub enum Call {
+pub enum CallState {
     /// The call waits for its response, until this deadline if there is one.
     Waiting(Option<u128>),
     /// The call's deadline has passed.
@@ -19,21 +19,21 @@ pub enum Call {
     Ended(Result<Response, Error>),
 }
 
-impl Call {
+impl CallState {
     /// Returns whether the call waits and its deadline is at or before this moment.
     pub fn is_due(&self, now: u64) -> bool
         ensures { result ≡ is_due now self.now }
     {
-        matches!(self, Call::Waiting(Some(deadline)) if *deadline <= u128::from(now))
+        matches!(self, CallState::Waiting(Some(deadline)) if *deadline <= u128::from(now))
     }
 }
 
 /// Returns the deadline of a call, if the call waits and has one.
-pub fn waits_until(call: &Option<Call>) -> Option<u128>
+pub fn waits_until(call: &Option<CallState>) -> Option<u128>
     ensures { result ≡ deadline_in call.now }
 {
     match call {
-        Some(Call::Waiting(deadline)) => *deadline,
-        None | Some(Call::Expired | Call::Ended(_)) => None,
+        Some(CallState::Waiting(deadline)) => *deadline,
+        None | Some(CallState::Expired | CallState::Ended(_)) => None,
     }
 }

@@ -14,10 +14,10 @@ ghost use Rattle.ttrpc_client.specs.Protocol.{Forgets, Requests, TakesOutcome, T
 ghost use Rattle.ttrpc_client.specs.Inside.{calling, Begins, IsUnwritten, IsWritten, MayRefuse};
 ghost use Rattle.ttrpc_client.specs.Streams.{AreStreams};
 
-use crate::call::{Call, CallId};
+use crate::call::{CallId, CallState};
 use crate::errors::{above_limit_error, deadline_error, used_up_error};
 use crate::kind::ClientKind;
-use crate::landing::Outcome;
+use crate::landing::CallOutcome;
 use crate::state::ClientState;
 use std::alloc::Global;
 use std::io::ErrorKind;
@@ -29,7 +29,7 @@ use ttrpc_proto::framing::header::oversize::oversize_error;
 use ttrpc_proto::framing::owners::Owners;
 use ttrpc_proto::{Error, GenMessage, MESSAGE_LENGTH_MAX, MessageHeader, Queued, Request};
 use ttrpc_secure::context::errors::or_no_memory;
-use ttrpc_secure::sending::{Parts, SendError};
+use ttrpc_secure::sending::{DataParts, SendError};
 use ttrpc_secure::{
     ConnectionContext, ConnectionData, InboundTransform, OutboundTransform, TransformError,
 };
@@ -161,7 +161,7 @@ impl<O: OutboundTransform + Drop, I: InboundTransform + Drop> ClientCore<O, I> {
         &mut self,
         alloc: Global,
         id: CallId,
-        parts: Parts<'_>,
+        parts: DataParts<'_>,
         deadline: Option<u128>,
     ) -> Result<(), TransformError>
         // The id is the next one, and the request fits, also into the queue.
@@ -184,7 +184,7 @@ impl<O: OutboundTransform + Drop, I: InboundTransform + Drop> ClientCore<O, I> {
         match self.connection.outbox.send(alloc, frame, parts) {
             Ok(()) => Ok(()),
             Err(SendError::Failed(error)) => {
-                self.state.withdraw(id);
+                self.state.undo_admit(id);
                 Err(error)
             }
             Err(SendError::TooLong | SendError::NoRoom) => unreachable!(),
@@ -196,7 +196,7 @@ impl<O: OutboundTransform + Drop, I: InboundTransform + Drop> ClientCore<O, I> {
     pub fn drop_call(&mut self, id: CallId)
         ensures { Forgets O.SEALS self.old id self.new }
     {
-        let waited = matches!(self.state.forget(id), Some(Call::Waiting(_)));
+        let waited = matches!(self.state.forget(id), Some(CallState::Waiting(_)));
         if !waited || self.connection.has_failed() || !self.throws() {
             return;
         }
@@ -276,14 +276,14 @@ impl<O: OutboundTransform + Drop, I: InboundTransform + Drop> ClientCore<O, I> {
 
     /// Takes the outcome of a call, once, or returns none if there is no such call or no outcome yet. If memory for the text of the outcome
     /// was refused, the outcome is `NoMemory`.
-    pub fn take_outcome(&mut self, alloc: Global, id: CallId) -> Option<Outcome>
+    pub fn take_outcome(&mut self, alloc: Global, id: CallId) -> Option<CallOutcome>
         ensures { TakesOutcome self.old id result self.new }
     {
         let failed = self.connection.has_failed();
         match self.state.take(id, failed)? {
-            Call::Ended(outcome) => Some(outcome),
-            Call::Expired => Some(Err(deadline_error(alloc))),
-            Call::Waiting(_) => match self.connection.failure(alloc) {
+            CallState::Ended(outcome) => Some(outcome),
+            CallState::Expired => Some(Err(deadline_error(alloc))),
+            CallState::Waiting(_) => match self.connection.failure(alloc) {
                 Some(error) => Some(Err(error)),
                 None => unreachable!(),
             },

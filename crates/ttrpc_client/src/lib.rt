@@ -17,5 +17,5 @@ pub use call::CallId;
 pub use client::ClientCore;
 pub use kind::ClientKind;
 pub use pending::{Looks, Pending, PendingId};
-pub use streams::{Sender, Stream, StreamId, Streams};
+pub use streams::{Sender, StreamId, StreamState, Streams};
 pub use ttrpc_connection::Ticket;

@@ -1,5 +1,5 @@
 //! The state of a client core, without its connection, and its reactions to whole frames. A function without an `alloc` argument takes no
-//! memory, except `admit`, `admit_stream` and `bring`.
+//! memory, except `admit`, `admit_stream` and `deliver`.
 ghost use Rattle.std.specs.Prelude.{◌≡◌, ◌%◌, ◌+◌, ◌++◌, ◌<◌, ◌^◌, ℕ, [], true, false, option_to_list, IfErr, IfSome, IfNone, OnOk, OnErr, None, Option, Some};
 ghost use Rattle.std.specs.BTreeMap.{is_at};
 ghost use Rattle.std.specs.Option.{option_map};
@@ -8,18 +8,18 @@ ghost use Rattle.std.specs.Set.{remove_key};
 ghost use Rattle.ttrpc_proto.specs.declared.error.Error.{Error as AnError};
 ghost use Rattle.ttrpc_connection.specs.Failure.{IsTold};
 ghost use Rattle.ttrpc_client.specs.State.{Client, IsClient, call_at, new_client, stream_at, waits, IsDeadline, due_at, due_ids};
-ghost use Rattle.ttrpc_client.specs.Streams.{AreStreams, StreamsStay, with_news, with_sender, without_reader, without_sender};
+ghost use Rattle.ttrpc_client.specs.Streams.{AreStreams, StreamsStay, with_delivery, with_sender, without_reader, without_sender};
 ghost use Rattle.ttrpc_client.specs.Protocol.{Expires, heard_with, last_id};
 ghost use Rattle.ttrpc_client.specs.Streaming.{ReceivesAt, unsendable};
 ghost use Rattle.ttrpc_client.specs.Inside.{Admits, AdmitsStream, ExpiresOne, Leaves, Settles, Takes, given_of};
 ghost use Rattle.ttrpc_client.specs.declared.streams.Sender.{Sender as ASender};
-ghost use Rattle.ttrpc_client.specs.declared.streams.Stream.{Stream as AStream};
+ghost use Rattle.ttrpc_client.specs.declared.streams.StreamState.{StreamState as AStream};
 
-use crate::call::{Call, CallId, waits_until};
+use crate::call::{CallId, CallState, waits_until};
 use crate::kind::ClientKind;
-use crate::landing::{News, Outcome, news_of, outcome_of};
+use crate::landing::{CallOutcome, StreamDelivery, delivery_of, outcome_of};
 use crate::pending::Pending;
-use crate::streams::{Stream, StreamId, Streams};
+use crate::streams::{StreamId, StreamState, Streams};
 use std::alloc::{AllocError, Global};
 use std::collections::{BTreeSet, VecDeque};
 use std::marker::Model;
@@ -37,7 +37,7 @@ const LAST_ID: u64 = 4294967295;
 pub struct ClientState {
     kind: ClientKind,
     next: u64,
-    calls: Pending<Call>,
+    calls: Pending<CallState>,
     // The deadlines of the calls that wait.
     deadlines: Deadlines,
     // The ended calls, with room for each call that waits, too, so that a call can always end.
@@ -120,7 +120,11 @@ impl ClientState {
     {
         self.ended.reserve(self.calls.len() + 1)?;
         self.deadlines.add(u64::from(id), deadline)?;
-        if self.calls.push_last(id, Call::Waiting(deadline)).is_err() {
+        if self
+            .calls
+            .push_last(id, CallState::Waiting(deadline))
+            .is_err()
+        {
             self.deadlines.take_away(u64::from(id), deadline);
             return Err(AllocError);
         }
@@ -129,7 +133,7 @@ impl ClientState {
     }
 
     /// Takes back the call that was admitted last.
-    pub(crate) fn withdraw(&mut self, id: CallId)
+    pub(crate) fn undo_admit(&mut self, id: CallId)
         requires last { self.old.next ≡ id + 2 }
         requires call { stream_at self.old id ≡ None }
         ensures { (old : Client) → (deadline : Option ℕ)
@@ -140,7 +144,7 @@ impl ClientState {
     }
 
     /// Forgets a call, and returns the state that was kept of it.
-    pub(crate) fn forget(&mut self, id: CallId) -> Option<Call>
+    pub(crate) fn forget(&mut self, id: CallId) -> Option<CallState>
         ensures was { result ≡ call_at self.old id }
         ensures leaves { Leaves self.old id self.new }
     {
@@ -153,14 +157,16 @@ impl ClientState {
     }
 
     /// Takes out the call of this id if its outcome can be given: the call has ended, or it waits and the connection has failed.
-    pub(crate) fn take(&mut self, id: CallId, failed: bool) -> Option<Call>
+    pub(crate) fn take(&mut self, id: CallId, failed: bool) -> Option<CallState>
         ensures given { result ≡ given_of failed (call_at self.old id) }
         ensures takes { Takes failed self.old id self.new }
     {
         match self.calls.get(id) {
             None => None,
-            Some(Call::Waiting(_)) if !failed => None,
-            Some(Call::Waiting(_) | Call::Expired | Call::Ended(_)) => self.forget(id),
+            Some(CallState::Waiting(_)) if !failed => None,
+            Some(CallState::Waiting(_) | CallState::Expired | CallState::Ended(_)) => self.forget(
+                id,
+            ),
         }
     }
 
@@ -192,7 +198,7 @@ impl ClientState {
             return None;
         }
         let id = id as u32;
-        self.settle(id, Call::Expired);
+        self.settle(id, CallState::Expired);
         Some(id)
     }
 
@@ -219,11 +225,11 @@ impl ClientState {
     fn waits(&self, id: CallId) -> bool
         ensures { result ≡ waits (call_at self.now id) }
     {
-        matches!(self.calls.get(id), Some(Call::Waiting(_)))
+        matches!(self.calls.get(id), Some(CallState::Waiting(_)))
     }
 
     /// Ends a waiting call in this way, and lists it as ended.
-    fn settle(&mut self, id: CallId, call: Call)
+    fn settle(&mut self, id: CallId, call: CallState)
         requires waited { waits (call_at self.old id) ≡ true }
         requires ended { waits (Some call) ≡ false }
         ensures { Settles self.old id call self.new }
@@ -240,7 +246,11 @@ impl ClientState {
 /// The calls on streams.
 impl ClientState {
     /// Keeps a new stream. An `Err` changes nothing.
-    pub(crate) fn admit_stream(&mut self, id: StreamId, stream: Stream) -> Result<(), AllocError>
+    pub(crate) fn admit_stream(
+        &mut self,
+        id: StreamId,
+        stream: StreamState,
+    ) -> Result<(), AllocError>
         requires { id ≡ self.old.next }
         ensures ok { OnOk result (AdmitsStream self.old id stream self.new) }
         ensures err { OnErr result (self.new ≡ self.old) }
@@ -251,7 +261,7 @@ impl ClientState {
     }
 
     /// Takes back the stream that was admitted last.
-    pub(crate) fn withdraw_stream(&mut self, id: StreamId)
+    pub(crate) fn undo_admit_stream(&mut self, id: StreamId)
         requires last { self.old.next ≡ id + 2 }
         requires stream { call_at self.old id ≡ None }
         ensures { (old : Client) → (stream : AStream)
@@ -325,19 +335,19 @@ impl ClientState {
 
     /// Puts a thing into the mailbox of a stream, and lists the stream as one for which something came, if its receiver gets it. An `Err`
     /// changes nothing.
-    fn bring(&mut self, id: StreamId, news: News) -> Result<(), AllocError>
+    fn deliver(&mut self, id: StreamId, delivery: StreamDelivery) -> Result<(), AllocError>
         ensures own { OnOk result (stream_at self.new id
-            ≡ option_map (with_news news.thing news.ends) (stream_at self.old id)) }
+            ≡ option_map (with_delivery delivery.thing delivery.ends) (stream_at self.old id)) }
         ensures others { OnOk result (StreamsStay self.old.streams id self.new.streams) }
         ensures same { OnOk result (self.new
             ≡ record self.old { streams = self.new.streams; heard = heard_with (stream_at self.old id) id self.old.heard }) }
         ensures err { OnErr result (self.new ≡ self.old) }
     {
         if !self.streams.hears(id) {
-            return self.streams.put(id, news.thing, news.ends);
+            return self.streams.put(id, delivery.thing, delivery.ends);
         }
         let is_new = self.heard.insert(id)?;
-        let put = self.streams.put(id, news.thing, news.ends);
+        let put = self.streams.put(id, delivery.thing, delivery.ends);
         if put.is_err() && is_new {
             self.heard.remove(&id);
         }
@@ -372,10 +382,10 @@ impl<O: OutboundTransform> Reacts<O> for ClientState {
         let id = header.stream_id;
         if self.waits(id) {
             let outcome = outcome_of(alloc, &header, arrived.opening)?;
-            self.settle(id, Call::Ended(outcome));
+            self.settle(id, CallState::Ended(outcome));
         } else if let Some(streaming_server) = self.streams.entered(id) {
-            let news = news_of(alloc, &header, arrived.opening, streaming_server)?;
-            self.bring(id, news)?;
+            let delivery = delivery_of(alloc, &header, arrived.opening, streaming_server)?;
+            self.deliver(id, delivery)?;
         }
         Ok(())
     }

@@ -28,14 +28,14 @@ impl<O: OutboundTransform + Drop, I: InboundTransform + Drop> StreamCore for Cli
     ghost refuses_close = { λ old id told. RefusesSending O.OutboundTransform old
         id close_flags [] told };
 
-    ghost unsends = { λ old id new. DropsSender old id new };
+    ghost stops_sending = { λ old id new. DropsSender old id new };
 
     ghost receives = { λ old id given new. ReceivesOne old id given new };
 
     ghost tells_sent = { λ c ticket told. TellsSent (is_sent c.connection.outbox.queue ticket)
         c.connection.failure told };
 
-    ghost unhears = { λ old id new. DropsReceiver old id new };
+    ghost stops_receiving = { λ old id new. DropsReceiver old id new };
 
     fn send_item(&mut self, alloc: Global, id: StreamId, item: &[u8]) -> Result<Ticket> {
         self.send(alloc, id, item)
@@ -45,7 +45,7 @@ impl<O: OutboundTransform + Drop, I: InboundTransform + Drop> StreamCore for Cli
         self.close_send(alloc, id)
     }
 
-    fn unsend(&mut self, id: StreamId) {
+    fn stop_sending(&mut self, id: StreamId) {
         self.drop_sender(id);
     }
 
@@ -57,7 +57,7 @@ impl<O: OutboundTransform + Drop, I: InboundTransform + Drop> StreamCore for Cli
         self.sent(alloc, ticket)
     }
 
-    fn unhear(&mut self, id: StreamId) {
+    fn stop_receiving(&mut self, id: StreamId) {
         self.drop_receiver(id);
     }
 }

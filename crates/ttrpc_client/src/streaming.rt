@@ -12,7 +12,7 @@ ghost use Rattle.ttrpc_client.specs.declared.streams.Sender.{Sender as ASender};
 
 use crate::client::ClientCore;
 use crate::errors::{advice, payload_error};
-use crate::streams::{Stream, StreamId};
+use crate::streams::{StreamId, StreamState};
 use std::alloc::Global;
 use ttrpc_connection::Ticket;
 use ttrpc_connection::items::{CLOSE_FLAGS, send_data, stream_frame, unsent_error};
@@ -21,7 +21,7 @@ use ttrpc_proto::{
     Error, FLAG_NO_DATA, FLAG_REMOTE_CLOSED, FLAG_REMOTE_OPEN, MESSAGE_TYPE_REQUEST, Queued,
     Request,
 };
-use ttrpc_secure::sending::{Parts, SendError};
+use ttrpc_secure::sending::{DataParts, SendError};
 use ttrpc_secure::{InboundTransform, OutboundTransform, TransformError};
 use ttrpc_wire::Blob;
 
@@ -59,7 +59,7 @@ impl<O: OutboundTransform + Drop, I: InboundTransform + Drop> ClientCore<O, I> {
         &mut self,
         alloc: Global,
         id: StreamId,
-        parts: Parts<'_>,
+        parts: DataParts<'_>,
         streaming_client: bool,
         streaming_server: bool,
     ) -> Result<(), TransformError>
@@ -76,7 +76,7 @@ impl<O: OutboundTransform + Drop, I: InboundTransform + Drop> ClientCore<O, I> {
             (IsOpeningFrame streaming_client id) (joined parts.entry)) }
         ensures err { OnErr result (self.new ≡ self.old) }
     {
-        let stream = Stream::new(alloc, streaming_client, streaming_server);
+        let stream = StreamState::new(alloc, streaming_client, streaming_server);
         if self.state.admit_stream(id, stream).is_err() {
             return Err(TransformError::NoMemory);
         }
@@ -84,7 +84,7 @@ impl<O: OutboundTransform + Drop, I: InboundTransform + Drop> ClientCore<O, I> {
         match self.connection.outbox.send(alloc, frame, parts) {
             Ok(()) => Ok(()),
             Err(SendError::Failed(error)) => {
-                self.state.withdraw_stream(id);
+                self.state.undo_admit_stream(id);
                 Err(error)
             }
             Err(SendError::TooLong | SendError::NoRoom) => unreachable!(),

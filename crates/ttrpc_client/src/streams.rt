@@ -6,14 +6,14 @@ ghost use Rattle.std.specs.Option.{option_map};
 ghost use Rattle.std.specs.Ordering.{nat_cmp};
 ghost use Rattle.ttrpc_proto.specs.declared.error.Error.{Error as AnError};
 ghost use Rattle.ttrpc_connection.specs.Failure.{IsTold};
-ghost use Rattle.ttrpc_client.specs.Streams.{StreamsStay, hears, is_entered, new_stream, stream_in, with_news, with_sender, without_reader, without_sender};
+ghost use Rattle.ttrpc_client.specs.Streams.{StreamsStay, hears, is_entered, new_stream, stream_in, with_delivery, with_sender, without_reader, without_sender};
 ghost use Rattle.ttrpc_client.specs.Streaming.{ReceivesAt, unsendable};
 
 use crate::errors::{unknown_error, unsendable_error};
 use std::alloc::{AllocError, Global};
 use std::collections::BTreeMap;
 use std::marker::Model;
-use ttrpc_connection::{Failure, Mailbox, Receiver, Thing};
+use ttrpc_connection::{Failure, Mailbox, MailboxEntry, Receiver};
 use ttrpc_proto::Error;
 use ttrpc_wire::Blob;
 
@@ -33,7 +33,7 @@ pub enum Sender {
 
 /// The state that is kept of a stream.
 #[derive(Debug, Drop)]
-pub struct Stream {
+pub struct StreamState {
     /// True if the stream was opened to send items.
     pub streaming_client: bool,
     /// True if the stream was opened to receive items.
@@ -44,12 +44,12 @@ pub struct Stream {
     pub mailbox: Mailbox,
 }
 
-impl Stream {
+impl StreamState {
     /// Returns a stream that was just opened. Takes no memory.
     pub fn new(alloc: Global, streaming_client: bool, streaming_server: bool) -> Self
         ensures { result ≡ new_stream streaming_client streaming_server }
     {
-        Stream {
+        StreamState {
             streaming_client,
             streaming_server,
             sender: Sender::Open,
@@ -61,14 +61,14 @@ impl Stream {
 /// The streams of a client, without those that have both halves dropped.
 #[derive(Drop)]
 pub struct Streams {
-    streams: BTreeMap<StreamId, Stream>,
+    streams: BTreeMap<StreamId, StreamState>,
 }
 
 impl Model for Streams {
     ghost use Rattle.std.specs.Prelude.{ℕ, List};
-    ghost use Rattle.ttrpc_client.specs.Types.{Stream};
+    ghost use Rattle.ttrpc_client.specs.Types.{StreamState};
 
-    ghost Value = { List (ℕ × Stream) };
+    ghost Value = { List (ℕ × StreamState) };
 
     ghost view = { λ a. a.streams.entries };
 }
@@ -84,7 +84,7 @@ impl Streams {
     }
 
     /// Keeps a stream. An `Err` changes nothing.
-    pub fn open(&mut self, id: StreamId, stream: Stream) -> Result<(), AllocError>
+    pub fn open(&mut self, id: StreamId, stream: StreamState) -> Result<(), AllocError>
         ensures own { OnOk result (stream_in self.new id ≡ Some stream) }
         ensures others { StreamsStay self.old id self.new }
         ensures entries { OnOk result (self.new ≡ insert_entry nat_cmp self.old id stream) }
@@ -152,9 +152,9 @@ impl Streams {
     }
 
     /// Puts a thing into the mailbox of a stream. If `ends` is true it is the last. An `Err` changes nothing.
-    pub fn put(&mut self, id: StreamId, thing: Thing, ends: bool) -> Result<(), AllocError>
+    pub fn put(&mut self, id: StreamId, thing: MailboxEntry, ends: bool) -> Result<(), AllocError>
         ensures own { OnOk result
-            (stream_in self.new id ≡ option_map (with_news thing ends) (stream_in self.old id)) }
+            (stream_in self.new id ≡ option_map (with_delivery thing ends) (stream_in self.old id)) }
         ensures others { StreamsStay self.old id self.new }
         ensures err { OnErr result (self.new ≡ self.old) }
     {

@@ -1,7 +1,7 @@
 -- Feeding a connection, for any core and its actions at whole frames.
 -- Source: this project's.
 use Rattle.std.specs.Prelude.{◌≡◌, ◌⊎◌, ◌&&◌, Bool, true, false, ℕ, nat_le, List, [], ◌∷◌, ◌++◌, Option, Some, None, IsSome}
-use Rattle.ttrpc_connection.specs.Types.{Error, Incoming, OutboundTransform, InboundTransform, Arrived, Opening, Connection, Failure, NoMemory, Outbox}
+use Rattle.ttrpc_connection.specs.Types.{Error, Incoming, OutboundTransform, InboundTransform, Arrived, InboundResult, Connection, Failure, NoMemory, Outbox}
 use Rattle.ttrpc_proto.specs.Framing.Frames.{Fed, given, nothing}
 use Rattle.ttrpc_proto.specs.Framing.Queue.{empty_queue, free}
 use Rattle.ttrpc_secure.specs.Hooks.Facts.{Facts}
@@ -40,7 +40,7 @@ abbrev pub scene : {S O I : Type 0} → S → Connection O I → Scene S O I
 scene state c = record { state = state; outbox = c.outbox; inbound = c.inbound }
 
 -- Returns the frame as the core gets it.
-abbrev pub arrived : Incoming → Opening → ℕ → Arrived
+abbrev pub arrived : Incoming → InboundResult → ℕ → Arrived
 arrived f opening now = record { header = header_of_frame f; opening = opening; now = now }
 
 -- Returns true if a core takes input and at least as many bytes are free as it asks for.
@@ -51,7 +51,7 @@ is_open w s outbox = w.core.takes s && nat_le w.core.ROOM (free outbox.queue)
 -- it, and takes input after it exactly if it did before.
 pub record Acts {S O I : Type 0} (w : Ways S O I) (now : ℕ) (old : Scene S O I) (f : Incoming) (new : Scene S O I) : Type 0 where
   pub was_open : is_open w old.state old.outbox ≡ true
-  pub opening : Opening
+  pub opening : InboundResult
   pub opens : Opens w.in_ old.inbound f opening new.inbound
   pub sent : List Sent
   pub reacts : w.core.reacts old.state old.outbox.half (arrived f opening now) sent new.state
@@ -88,7 +88,7 @@ pub record FeedsFront {S O I : Type 0} (w : Ways S O I) (s : S) (old : Connectio
 abbrev pub IsWhy : {S O I : Type 0} → Ways S O I → ℕ → Scene S O I → Option Incoming → Failure → I → Type 0
 IsWhy w now old None failure inbound = (failure ≡ NoMemory) × (inbound ≡ old.inbound)
 IsWhy w now old (Some f) failure inbound = ((failure ≡ NoMemory) × (inbound ≡ old.inbound))
-    ⊎ ((opening : Opening) × Opens w.in_ old.inbound f opening inbound × ((failure ≡ NoMemory) ⊎ w.core.fails old.state (arrived f opening now) failure))
+    ⊎ ((opening : InboundResult) × Opens w.in_ old.inbound f opening inbound × ((failure ≡ NoMemory) ⊎ w.core.fails old.state (arrived f opening now) failure))
 
 -- Holds if the connection took the first bytes of a piece and then failed, at a frame or before the next one was whole. The frames before
 -- acted. The frame at which it failed changed nothing but the inbound half, and no later byte was read.

@@ -1,7 +1,7 @@
 -- The effect of a whole frame.
 -- Source: this project's.
 use Rattle.std.specs.Prelude.{◌≡◌, ◌≤◌, ℕ, List, [], ◌∷◌, length}
-use Rattle.ttrpc_connection.specs.Types.{MESSAGE_LENGTH_MAX, MessageHeader, Incoming, Queued, OutboundTransform, InboundTransform, Opening, TooLong, Opened, Refused, Outbox}
+use Rattle.ttrpc_connection.specs.Types.{MESSAGE_LENGTH_MAX, MessageHeader, Incoming, Queued, OutboundTransform, InboundTransform, InboundResult, TooLong, Opened, Refused, Outbox}
 use Rattle.ttrpc_proto.specs.declared.framing.frame.Incoming.TheVariants.{Frame, Oversize}
 use Rattle.ttrpc_proto.specs.Framing.Queue.{free, ticket_after, with_frame, with_payload}
 use Rattle.ttrpc_secure.specs.Sends.{associated, needed}
@@ -13,7 +13,7 @@ header_of_frame (Frame m) = m.header
 header_of_frame (Oversize h) = h
 
 -- Holds if this is the result of the inbound half for a frame. A frame that is too long doesn't pass the half.
-abbrev pub Opens : {I : Type 0} → InboundTransform I → I → Incoming → Opening → I → Type 0
+abbrev pub Opens : {I : Type 0} → InboundTransform I → I → Incoming → InboundResult → I → Type 0
 Opens half before (Oversize _) opening after = (opening ≡ TooLong) × (after ≡ before)
 Opens half before (Frame m) TooLong after = ⊥
 Opens half before (Frame m) (Opened plain) after = half.opens before m.payload (associated m.header) plain after

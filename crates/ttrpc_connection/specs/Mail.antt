@@ -3,12 +3,12 @@
 use Rattle.std.specs.Prelude.{◌≡◌, ◌⊎◌, ℕ, List, [], ◌∷◌, ◌++◌, ◌||◌, Bool, true, false, codes, Option, Some, None, Result, Ok, Err, if◌then◌else◌}
 use Rattle.ttrpc_connection.specs.Failure.{error_of}
 use Rattle.ttrpc_proto.specs.declared.error.Error.TheVariants.{Eof, NoMemory, Others, RemoteClosed}
-use Rattle.ttrpc_connection.specs.Types.{Error, Failure, Thing, Item, Last, End, Closing, Breaking, Receiver, Open, Closed, Broken, Dropped}
+use Rattle.ttrpc_connection.specs.Types.{Error, Failure, MailboxEntry, Item, Last, End, Closing, Breaking, Receiver, Open, Closed, Broken, Dropped}
 
 -- The things that came in for one receiver, and its state.
 pub record Mail : Type 0 where
   -- the things that weren't received yet
-  pub things : List Thing
+  pub things : List MailboxEntry
   -- the state of the receiver
   pub receiver : Receiver
   -- true if nothing more is put in
@@ -19,18 +19,18 @@ abbrev pub empty_mail : Mail
 empty_mail = record { things = []; receiver = Open; ended = false }
 
 -- Returns the things with one after the others, for an open receiver. For another receiver the thing isn't kept.
-abbrev pub kept_for : Receiver → List Thing → Thing → List Thing
+abbrev pub kept_for : Receiver → List MailboxEntry → MailboxEntry → List MailboxEntry
 kept_for Open things x = things ++ x ∷ []
 kept_for Closed things x = things
 kept_for Broken things x = things
 kept_for Dropped things x = things
 
 -- Returns the mailbox with a thing put in, which may be the last.
-abbrev pub with_thing : Mail → Thing → Bool → Mail
+abbrev pub with_thing : Mail → MailboxEntry → Bool → Mail
 with_thing m x ends = record { things = kept_for m.receiver m.things x; receiver = m.receiver; ended = m.ended || ends }
 
 -- Returns the mailbox of a stream that begins with this thing, if there is one. The thing may be the last.
-abbrev pub opened_with : Option Thing → Bool → Mail
+abbrev pub opened_with : Option MailboxEntry → Bool → Mail
 opened_with None ends = empty_mail
 opened_with (Some x) ends = with_thing empty_mail x ends
 
@@ -50,7 +50,7 @@ abbrev pub past_error : Error
 past_error = Others (codes "Receive packet from Receiver error")
 
 -- Returns the result of a call to receive.
-abbrev pub answer_of : Receiver → List Thing → Option (Result (List ℕ) Error)
+abbrev pub answer_of : Receiver → List MailboxEntry → Option (Result (List ℕ) Error)
 answer_of Dropped xs = Some (Err past_error)
 answer_of Broken xs = Some (Err past_error)
 answer_of Closed xs = Some (Err RemoteClosed)
@@ -62,7 +62,7 @@ answer_of Open (Closing error ∷ xs) = Some (Err error)
 answer_of Open (Breaking error ∷ xs) = Some (Err error)
 
 -- Returns the state of the receiver after the call.
-abbrev pub receiver_of : Receiver → List Thing → Receiver
+abbrev pub receiver_of : Receiver → List MailboxEntry → Receiver
 receiver_of Dropped xs = Dropped
 receiver_of Broken xs = Broken
 receiver_of Closed xs = Closed
@@ -74,7 +74,7 @@ receiver_of Open (Closing error ∷ xs) = Closed
 receiver_of Open (Breaking error ∷ xs) = Broken
 
 -- Returns the things that are left after the call.
-abbrev pub things_of : Receiver → List Thing → List Thing
+abbrev pub things_of : Receiver → List MailboxEntry → List MailboxEntry
 things_of Dropped xs = xs
 things_of Broken xs = xs
 things_of Closed xs = xs
@@ -103,7 +103,7 @@ left_empty (Some failure) true = record { things = []; receiver = Open; ended = 
 left_empty (Some failure) false = record { things = []; receiver = Broken; ended = true }
 
 -- Returns the mailbox with these fields after a call to receive.
-abbrev pub left_at : Option Failure → Bool → Receiver → List Thing → Mail
+abbrev pub left_at : Option Failure → Bool → Receiver → List MailboxEntry → Mail
 left_at failure ended Open [] = left_empty failure ended
 left_at failure ended Open (x ∷ xs) = record { things = things_of Open (x ∷ xs); receiver = receiver_of Open (x ∷ xs); ended = ended }
 left_at failure ended Closed xs = record { things = xs; receiver = Closed; ended = ended }
@@ -115,7 +115,7 @@ abbrev pub taken : Option Failure → Mail → Mail
 taken failure m = left_at failure m.ended m.receiver m.things
 
 -- Returns true if a call to receive makes the text of its error, by the mailbox's fields.
-abbrev pub makes_text_at : Option Failure → Bool → Receiver → List Thing → Bool
+abbrev pub makes_text_at : Option Failure → Bool → Receiver → List MailboxEntry → Bool
 makes_text_at failure ended Dropped xs = true
 makes_text_at failure ended Broken xs = true
 makes_text_at failure ended Closed xs = false

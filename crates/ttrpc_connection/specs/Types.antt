@@ -8,13 +8,13 @@ pub use Rattle.ttrpc_proto.specs.declared.framing.outgoing.Queued.{Queued}
 pub use Rattle.ttrpc_secure.specs.declared.transform.InboundTransform.{Ghosts as InboundTransform}
 pub use Rattle.ttrpc_secure.specs.declared.transform.OutboundTransform.{Ghosts as OutboundTransform}
 pub use Rattle.ttrpc_connection.specs.declared.arrived.Arrived.{Arrived}
-pub use Rattle.ttrpc_connection.specs.declared.arrived.Opening.{Opening}
-pub use Rattle.ttrpc_connection.specs.declared.arrived.Opening.TheVariants.{Opened, Refused, TooLong}
+pub use Rattle.ttrpc_connection.specs.declared.arrived.InboundResult.{InboundResult}
+pub use Rattle.ttrpc_connection.specs.declared.arrived.InboundResult.TheVariants.{Opened, Refused, TooLong}
 pub use Rattle.ttrpc_connection.specs.declared.connection.Connection.{Connection}
 pub use Rattle.ttrpc_connection.specs.declared.failure.Failure.{Failure}
 pub use Rattle.ttrpc_connection.specs.declared.failure.Failure.TheVariants.{Broke, CancelledDuringWrite, DeadlineDuringWrite, Disconnected, DisconnectedInside, HandlerError, JobIdsUsedUp, NoMemory, NoMemory as MemoryRefused, Told}
 pub use Rattle.ttrpc_connection.specs.Outbox.{Outbox}
-pub use Rattle.ttrpc_connection.specs.declared.thing.Thing.{Thing}
-pub use Rattle.ttrpc_connection.specs.declared.thing.Thing.TheVariants.{Item, Last, End, Closing, Breaking}
+pub use Rattle.ttrpc_connection.specs.declared.thing.MailboxEntry.{MailboxEntry}
+pub use Rattle.ttrpc_connection.specs.declared.thing.MailboxEntry.TheVariants.{Item, Last, End, Closing, Breaking}
 pub use Rattle.ttrpc_connection.specs.declared.mailbox.Receiver.{Receiver}
 pub use Rattle.ttrpc_connection.specs.declared.mailbox.Receiver.TheVariants.{Open, Closed, Broken, Dropped}

@@ -10,7 +10,7 @@ use ttrpc_wire::{Blob, Text};
 
 /// The result of passing a frame's payload through the inbound half.
 #[derive(Debug, Drop, PartialEq, Eq)]
-pub enum Opening {
+pub enum InboundResult {
     /// The payload is longer than a message may be. Such a payload isn't kept, and doesn't pass the half.
     TooLong,
     /// The half opened the payload to these bytes.
@@ -23,7 +23,7 @@ pub enum Opening {
 #[derive(Debug, Drop, PartialEq, Eq)]
 pub struct Arrived {
     pub header: MessageHeader,
-    pub opening: Opening,
+    pub opening: InboundResult,
     /// The moment of the call that brought the frame's last byte, in nanoseconds.
     pub now: u64,
 }
@@ -44,7 +44,7 @@ pub fn open<I: InboundTransform>(
     match incoming {
         Incoming::Oversize(header) => Ok(Arrived {
             header,
-            opening: Opening::TooLong,
+            opening: InboundResult::TooLong,
             now,
         }),
         Incoming::Frame(message) => {
@@ -53,12 +53,12 @@ pub fn open<I: InboundTransform>(
             match half.transform_inbound_vec(alloc, message.payload.into_vec(), &associated) {
                 Ok(plain) => Ok(Arrived {
                     header,
-                    opening: Opening::Opened(Blob::from_vec(plain)),
+                    opening: InboundResult::Opened(Blob::from_vec(plain)),
                     now,
                 }),
                 Err(TransformError::Refused(why)) => Ok(Arrived {
                     header,
-                    opening: Opening::Refused(why),
+                    opening: InboundResult::Refused(why),
                     now,
                 }),
                 Err(TransformError::NoMemory) => Err(AllocError),

@@ -15,7 +15,7 @@ use ttrpc_proto::{
 use ttrpc_secure::context::errors::{
     or_no_memory, others_error, unsafe_payload_error, unsealed_error,
 };
-use ttrpc_secure::sending::{Parts, SendError};
+use ttrpc_secure::sending::{DataParts, SendError};
 use ttrpc_secure::{OutboundTransform, TransformError};
 use ttrpc_wire::Blob;
 
@@ -56,7 +56,7 @@ pub fn send_data<O: OutboundTransform + Drop>(
         return Err(Error::NoRoom);
     }
     let frame = data_frame(alloc, stream_id, flags, ticket);
-    match outbox.send(alloc, frame, Parts::whole(plain)) {
+    match outbox.send(alloc, frame, DataParts::whole(plain)) {
         Ok(()) => Ok(ticket),
         Err(SendError::Failed(refused)) => Err(unsent_error(alloc, &refused)),
         Err(SendError::TooLong | SendError::NoRoom) => unreachable!(),

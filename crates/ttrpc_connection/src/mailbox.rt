@@ -4,7 +4,7 @@ ghost use Rattle.ttrpc_connection.specs.Failure.{IsTold};
 ghost use Rattle.ttrpc_connection.specs.Mail.{Receives, empty_mail, opened_with, past_error, with_thing, without_receiver};
 
 use crate::failure::Failure;
-use crate::thing::Thing;
+use crate::thing::MailboxEntry;
 use std::alloc::{AllocError, Global};
 use std::collections::VecDeque;
 use std::marker::Model;
@@ -27,7 +27,7 @@ pub enum Receiver {
 /// The things that came in for one receiver and weren't received yet. Nothing is kept for a receiver that isn't open.
 #[derive(Debug, Drop)]
 pub struct Mailbox {
-    things: VecDeque<Thing>,
+    things: VecDeque<MailboxEntry>,
     receiver: Receiver,
     ended: bool,
 }
@@ -54,7 +54,11 @@ impl Mailbox {
     }
 
     /// Returns the mailbox of a stream that begins with this thing, if there is one. If `ends` is true the thing is the last.
-    pub fn opened(alloc: Global, thing: Option<Thing>, ends: bool) -> Result<Self, AllocError>
+    pub fn with_first(
+        alloc: Global,
+        thing: Option<MailboxEntry>,
+        ends: bool,
+    ) -> Result<Self, AllocError>
         ensures { IfOk result (λ mailbox. mailbox ≡ opened_with thing ends) }
     {
         let mut mailbox = Mailbox::new(alloc);
@@ -79,7 +83,7 @@ impl Mailbox {
     }
 
     /// Puts a thing in after the others. If `ends` is true it is the last. An `Err` changes nothing.
-    pub fn put(&mut self, thing: Thing, ends: bool) -> Result<(), AllocError>
+    pub fn put(&mut self, thing: MailboxEntry, ends: bool) -> Result<(), AllocError>
         ensures ok { OnOk result (self.new ≡ with_thing self.old thing ends) }
         ensures err { OnErr result (self.new ≡ self.old) }
     {
@@ -99,24 +103,24 @@ impl Mailbox {
         match self.receiver {
             Receiver::Open => {}
             Receiver::Closed => return Some(Err(Error::RemoteClosed)),
-            Receiver::Broken | Receiver::Dropped => return Some(Err(past(alloc))),
+            Receiver::Broken | Receiver::Dropped => return Some(Err(past_error(alloc))),
         }
         match self.things.pop_front() {
             None => self.recv_failure(alloc, failure),
-            Some(Thing::Item(item)) => Some(Ok(item)),
-            Some(Thing::Last(item)) => {
+            Some(MailboxEntry::Item(item)) => Some(Ok(item)),
+            Some(MailboxEntry::Last(item)) => {
                 self.stop(Receiver::Closed);
                 Some(Ok(item))
             }
-            Some(Thing::End) => {
+            Some(MailboxEntry::End) => {
                 self.stop(Receiver::Closed);
                 Some(Err(Error::Eof))
             }
-            Some(Thing::Closing(error)) => {
+            Some(MailboxEntry::Closing(error)) => {
                 self.stop(Receiver::Closed);
                 Some(Err(error))
             }
-            Some(Thing::Breaking(error)) => {
+            Some(MailboxEntry::Breaking(error)) => {
                 self.stop(Receiver::Broken);
                 Some(Err(error))
             }
@@ -166,7 +170,7 @@ impl Mailbox {
 }
 
 /// Returns the error for a receiver that is broken or dropped, or `NoMemory` if memory for its text was refused.
-pub fn past(alloc: Global) -> Error
+pub fn past_error(alloc: Global) -> Error
     ensures { IsTold past_error result }
 {
     match Text::from_str(alloc, "Receive packet from Receiver error") {

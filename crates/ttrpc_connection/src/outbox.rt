@@ -14,7 +14,7 @@ use std::marker::Model;
 use ttrpc_proto::framing::owners::Owners;
 use ttrpc_proto::{Error, MESSAGE_HEADER_LENGTH, Outgoing, Queued};
 use ttrpc_secure::OutboundTransform;
-use ttrpc_secure::sending::{Parts, SendError, limit_of, send};
+use ttrpc_secure::sending::{DataParts, SendError, limit_of, send};
 
 /// The half that seals, and the sealed frames that wait to be written.
 #[derive(Drop)]
@@ -93,7 +93,12 @@ impl<O: OutboundTransform + Drop> Outbox<O> {
 
     /// Seals the data and queues the frame, with the sealed data in place of its payload. An error changes nothing. `TooLong` is checked
     /// first, then `NoRoom`.
-    pub fn send(&mut self, alloc: Global, frame: Queued, parts: Parts<'_>) -> Result<(), SendError>
+    pub fn send(
+        &mut self,
+        alloc: Global,
+        frame: Queued,
+        parts: DataParts<'_>,
+    ) -> Result<(), SendError>
         // A frame with a ticket has the next one, and is no unary request.
         requires { IsNext frame.ticket frame.is_unary_request self.old.tickets }
         // At an `Ok` the half sealed the data, and the frame with them is queued.

@@ -28,7 +28,7 @@ pub trait StreamCore {
     ghost refuses_close: { Self → Self.Id → Error → Type 0 };
 
     // The sender of a stream was dropped.
-    ghost unsends: { Self → Self.Id → Self → Type 0 };
+    ghost stops_sending: { Self → Self.Id → Self → Type 0 };
 
     // This item or error was received from a stream, or nothing came yet.
     ghost receives: { Self → Self.Id → Option (Result (List ℕ) Error) → Self → Type 0 };
@@ -37,7 +37,7 @@ pub trait StreamCore {
     ghost tells_sent: { Self → ℕ → Option (Result (Unit {0}) Error) → Type 0 };
 
     // The receiver of a stream was dropped.
-    ghost unhears: { Self → Self.Id → Self → Type 0 };
+    ghost stops_receiving: { Self → Self.Id → Self → Type 0 };
 
     /// Sends an item, as `send` does. A refusal changes nothing.
     fn send_item(&mut self, alloc: Global, id: Self::Id, item: &[u8]) -> Result<Ticket>
@@ -52,8 +52,8 @@ pub trait StreamCore {
         ensures err { OnErr result (self.new ≡ self.old) };
 
     /// Drops the sender, as `drop_sender` does, which only a client has. Takes no memory.
-    fn unsend(&mut self, id: Self::Id)
-        ensures { unsends self.old id self.new };
+    fn stop_sending(&mut self, id: Self::Id)
+        ensures { stops_sending self.old id self.new };
 
     /// Takes the next item, or returns why there is none, as `recv` does.
     fn recv_item(&mut self, alloc: Global, id: Self::Id) -> Option<Result<Blob>>
@@ -64,6 +64,6 @@ pub trait StreamCore {
         ensures { tells_sent self.now ticket result };
 
     /// Drops the receiver, as `drop_receiver` does. Takes no memory.
-    fn unhear(&mut self, id: Self::Id)
-        ensures { unhears self.old id self.new };
+    fn stop_receiving(&mut self, id: Self::Id)
+        ensures { stops_receiving self.old id self.new };
 }

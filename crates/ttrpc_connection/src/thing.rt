@@ -6,9 +6,9 @@ use std::alloc::{AllocError, Global};
 use ttrpc_proto::{Error, FLAG_NO_DATA, FLAG_REMOTE_CLOSED, FLAG_REMOTE_OPEN};
 use ttrpc_wire::{Blob, Text};
 
-/// A thing that comes in for a receiver.
+/// An entry of a mailbox: a thing that comes in for a receiver.
 #[derive(Debug, Drop, PartialEq)]
-pub enum Thing {
+pub enum MailboxEntry {
     /// An item, and more may follow.
     Item(Blob),
     /// The last item.
@@ -29,39 +29,44 @@ pub fn closes(flags: u8) -> bool
 }
 
 /// Returns the thing that a data frame brings for a stream that takes items. Only the text of an error takes memory.
-pub fn of_data(alloc: Global, stream_id: u32, flags: u8, payload: Blob) -> Result<Thing, AllocError>
+pub fn of_data(
+    alloc: Global,
+    stream_id: u32,
+    flags: u8,
+    payload: Blob,
+) -> Result<MailboxEntry, AllocError>
     ensures { IfOk result (λ thing. thing ≡ data_thing stream_id flags payload) }
 {
     if !closes(flags) {
-        return Ok(Thing::Item(payload));
+        return Ok(MailboxEntry::Item(payload));
     }
     if flags & FLAG_NO_DATA == 0 {
-        return Ok(Thing::Last(payload));
+        return Ok(MailboxEntry::Last(payload));
     }
     if payload.len() == 0 {
-        return Ok(Thing::End);
+        return Ok(MailboxEntry::End);
     }
     let text = format!(in alloc; "stream {stream_id}: close message cannot include data")?;
-    Ok(Thing::Closing(Error::Others(Text::from_string(text))))
+    Ok(MailboxEntry::Closing(Error::Others(Text::from_string(text))))
 }
 
 /// Returns the thing that a stream's request brings by itself, if any: its payload, unless its flags state that it has none. Takes no
 /// memory.
-pub fn of_request(flags: u8, payload: Blob) -> Option<Thing>
+pub fn of_request(flags: u8, payload: Blob) -> Option<MailboxEntry>
     ensures { result ≡ request_thing flags payload }
 {
     let brings_item = flags & FLAG_NO_DATA == 0;
     match (closes(flags), brings_item) {
-        (false, true) => Some(Thing::Item(payload)),
-        (true, true) => Some(Thing::Last(payload)),
-        (true, false) => Some(Thing::End),
+        (false, true) => Some(MailboxEntry::Item(payload)),
+        (true, true) => Some(MailboxEntry::Last(payload)),
+        (true, false) => Some(MailboxEntry::End),
         (false, false) => None,
     }
 }
 
 /// Returns the thing that a stream's request brings, if any. If `bare` is true, a request brings nothing if it states that items follow,
 /// has an empty payload, and has neither the flag for no data nor the one that closes. Takes no memory.
-pub fn of_opening(bare: bool, flags: u8, payload: Blob) -> Option<Thing>
+pub fn of_opening(bare: bool, flags: u8, payload: Blob) -> Option<MailboxEntry>
     ensures { result ≡ opening_thing bare flags payload }
 {
     if bare && is_bare(flags, &payload) {

@@ -8,7 +8,7 @@ use std::io::{BufWriter, ErrorKind};
 use std::net::{TcpListener, TcpStream};
 use std::process::ExitCode;
 use std::rt::Env;
-use ttrpc_echo::{Outcome, run, tell};
+use ttrpc_echo::{ProgramOutcome, run, tell};
 use ttrpc_proto::{Error, MESSAGE_HEADER_LENGTH, MESSAGE_LENGTH_MAX};
 use ttrpc_transport::nodelay_from;
 
@@ -17,16 +17,18 @@ use ttrpc_transport::nodelay_from;
 const ROOM: usize = MESSAGE_HEADER_LENGTH + MESSAGE_LENGTH_MAX;
 
 /// Returns the words after the program's name. If one of them isn't UTF-8, the words are wrong.
-fn given_words<R: Env + AllocGlobal>(rt: &R) -> Result<Vec<String>, Outcome> {
+fn given_words<R: Env + AllocGlobal>(rt: &R) -> Result<Vec<String>, ProgramOutcome> {
     let all = match env::args(rt) {
         Ok(all) => all,
-        Err(error) if error.kind() == ErrorKind::InvalidData => return Err(Outcome::WrongWords),
-        Err(_) => return Err(Outcome::Failed(Error::NoMemory)),
+        Err(error) if error.kind() == ErrorKind::InvalidData => return Err(
+            ProgramOutcome::WrongWords,
+        ),
+        Err(_) => return Err(ProgramOutcome::Failed(Error::NoMemory)),
     };
     let mut words = Vec::new(rt.alloc());
     for word in all.skip(1) {
         if words.push(word).is_err() {
-            return Err(Outcome::Failed(Error::NoMemory));
+            return Err(ProgramOutcome::Failed(Error::NoMemory));
         }
     }
     Ok(words)
@@ -40,7 +42,7 @@ fn main(rt: HostRuntime) -> ExitCode {
         Err(outcome) => return ExitCode::from(tell(&outcome, &mut rt.stderr())),
     };
     let Ok(mut output) = BufWriter::with_capacity(rt.alloc(), ROOM, rt.stdout()) else {
-        return ExitCode::from(tell(&Outcome::Failed(Error::NoMemory), &mut rt.stderr()));
+        return ExitCode::from(tell(&ProgramOutcome::Failed(Error::NoMemory), &mut rt.stderr()));
     };
     let setting = env::var(&rt, "TTRPC_TCP_NODELAY_ENABLED").ok();
     ExitCode::from(run(

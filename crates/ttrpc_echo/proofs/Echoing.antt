@@ -18,8 +18,8 @@ use Rattle.ttrpc_proto.specs.Framing.Queue.{Queue, IsQueue, IsWithin, unsent, wi
 use Rattle.ttrpc_proto.proofs.Queues.{with_frame_is_queue, written_is}
 use Rattle.ttrpc_secure.specs.declared.plain.Plain.{Plain}
 use Rattle.ttrpc_connection.specs.declared.arrived.Arrived.{Arrived}
-use Rattle.ttrpc_connection.specs.declared.arrived.Opening.{Opening}
-use Rattle.ttrpc_connection.specs.declared.arrived.Opening.TheVariants.{TooLong, Opened, Refused}
+use Rattle.ttrpc_connection.specs.declared.arrived.InboundResult.{InboundResult}
+use Rattle.ttrpc_connection.specs.declared.arrived.InboundResult.TheVariants.{TooLong, Opened, Refused}
 use Rattle.ttrpc_connection.specs.Outbox.{Outbox}
 use Rattle.ttrpc_connection.specs.Feeds.{Acts, ActsAll, Scene, arrived, scene}
 use Rattle.ttrpc_connection.specs.Frames.{Opens, Sent, SendsAll, SendsOne, header_of_frame}
@@ -30,7 +30,7 @@ use Rattle.ttrpc_server.specs.Protocol.{Does, serving, IsResponseFrame, SendsOwn
 use Rattle.ttrpc_server.specs.Table.{Row, Ignore, SendResponse, SendCode, MakeJob, MakeStream, PutIn, case_of, case_row, newest_after, request_row, sync_row}
 use Rattle.ttrpc_server.specs.declared.rows.Case.{Case}
 use Rattle.ttrpc_server.specs.declared.rows.Case.TheVariants.{Asks}
-use Rattle.ttrpc_server.specs.declared.rows.Inlet.TheVariants.{Absent}
+use Rattle.ttrpc_server.specs.declared.rows.StreamIdState.TheVariants.{Absent}
 use Rattle.ttrpc_server.specs.declared.rules.Rules.{Rules}
 use Rattle.ttrpc_server.specs.declared.rules.Rules.TheVariants.{Sync}
 use Rattle.ttrpc_server.proofs.Streams.{is_of_streams, no_streams, row_of_sync}
@@ -41,7 +41,7 @@ use Rattle.ttrpc_echo.specs.Serving.{plain_in, plain_out, IsReady, Echoes, Serve
 use Rattle.ttrpc_echo.proofs.Limits.{fitted_fits}
 
 -- with plain halves a frame is opened as it is
-pub opened_plainly : (s t : Plain) (f : Incoming) (o : Opening) → Opens plain_in s f o t → o ≡ plainly f
+pub opened_plainly : (s t : Plain) (f : Incoming) (o : InboundResult) → Opens plain_in s f o t → o ≡ plainly f
 opened_plainly s t (Oversize h) o opens = opens.0
 opened_plainly s t (Frame m) TooLong opens = absurd opens
 opened_plainly s t (Frame m) (Opened plain) opens = ap (λ p. Opened p) opens.0
@@ -215,7 +215,7 @@ same_case_row : (s : Services) (h : MessageHeader) (case : Case) → HasEcho s �
 same_case_row s h (Asks plain) has = same_request s (read_from request_step empty_request plain) has
 same_case_row s h case has = refl
 
-same_row : (s : Services) (h : MessageHeader) (o : Opening) → HasEcho s → sync_row s h o ≡ sync_row echo_services h o
+same_row : (s : Services) (h : MessageHeader) (o : InboundResult) → HasEcho s → sync_row s h o ≡ sync_row echo_services h o
 same_row s h o has = same_case_row s h (case_of Sync h o None Absent) has
 
 -- sync rules note no newest request

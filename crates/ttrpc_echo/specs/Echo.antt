@@ -8,8 +8,8 @@ use Rattle.ttrpc_proto.specs.Framing.Header.{header_bytes}
 use Rattle.ttrpc_proto.specs.Messages.{empty_status}
 use Rattle.ttrpc_proto.specs.declared.framing.frame.Incoming.{Incoming}
 use Rattle.ttrpc_proto.specs.declared.framing.frame.Incoming.TheVariants.{Frame, Oversize}
-use Rattle.ttrpc_connection.specs.declared.arrived.Opening.{Opening}
-use Rattle.ttrpc_connection.specs.declared.arrived.Opening.TheVariants.{TooLong, Opened}
+use Rattle.ttrpc_connection.specs.declared.arrived.InboundResult.{InboundResult}
+use Rattle.ttrpc_connection.specs.declared.arrived.InboundResult.TheVariants.{TooLong, Opened}
 use Rattle.ttrpc_connection.specs.Frames.{header_of_frame}
 use Rattle.ttrpc_server.specs.State.{Services, has_method}
 use Rattle.ttrpc_server.specs.Protocol.{IsStatusResponse, fit_to_limit, response_bytes}
@@ -28,7 +28,7 @@ abbrev pub echo_of : Request → Response
 echo_of request = record { status = Some empty_status; payload = request.payload }
 
 -- with no transform a payload is opened as it is
-abbrev pub plainly : Incoming → Opening
+abbrev pub plainly : Incoming → InboundResult
 plainly (Oversize h) = TooLong
 plainly (Frame m) = Opened m.payload
 

@@ -7,6 +7,6 @@ pub mod program;
 
 pub use engine::{answer, broken, echo, flush};
 pub use program::{
-    Echo, EchoServer, FaultKeeper, Faults, Outcome, System, call_at, call_own, run, start_server,
-    tell, tell_address,
+    DemoSystem, EchoHandler, EchoServer, FaultKeeper, Faults, ProgramOutcome, call_at, call_own,
+    run, start_server, tell, tell_address,
 };

@@ -1,6 +1,6 @@
 //! A server in its own thread.
 use crate::program::HealthServer;
-use crate::system::{System, nix};
+use crate::system::{HealthSystem, nix};
 use futures::StreamExt;
 use health_stub::{HealthTable, health_services};
 use std::net::{SocketAddr, TcpListener};
@@ -20,7 +20,7 @@ pub struct Served {
 }
 
 /// Starts a server of a table at a free port of this machine, which serves `count` connections.
-pub fn serve_apart<R: System + Threads + Send + 'static>(
+pub fn serve_apart<R: HealthSystem + Threads + Send + 'static>(
     rt: &R,
     table: HealthTable,
     nodelay: bool,
@@ -34,7 +34,7 @@ pub fn serve_apart<R: System + Threads + Send + 'static>(
     Ok(Served { address, thread })
 }
 
-fn serve<R: System>(
+fn serve<R: HealthSystem>(
     rt: &R,
     listener: TcpListener,
     table: HealthTable,
@@ -49,7 +49,7 @@ fn serve<R: System>(
     nix(runtime.run_all(rt, serving.take(count)))
 }
 
-fn server_of<R: System>(
+fn server_of<R: HealthSystem>(
     rt: &R,
     handle: &Handle,
     listener: TcpListener,

@@ -1,8 +1,8 @@
 //! The program's commands.
 use crate::apart::{Served, serve_apart};
 use crate::site::Site;
-use crate::system::{System, nix};
-use crate::words::{Asked, read_words};
+use crate::system::{HealthSystem, nix};
+use crate::words::{HealthCommand, read_words};
 use health_stub::{HealthHandler, HealthTable, health_services};
 use std::io::Write;
 use std::thread::Threads;
@@ -18,7 +18,7 @@ pub type HealthServer<R> = Server<R, HealthHandler, HealthHandler>;
 
 /// Runs the command that the words give, and reports failures on `errors`. With `nodelay`, each write goes out at once.
 /// Returns the status: 0, or 1 at a failure or a refused call, or 2 if the words are wrong.
-pub fn run<R: System + Threads + Send + 'static, W: Write, X: Write>(
+pub fn run<R: HealthSystem + Threads + Send + 'static, W: Write, X: Write>(
     rt: R,
     words: &[String],
     nodelay: bool,
@@ -34,7 +34,7 @@ pub fn run<R: System + Threads + Send + 'static, W: Write, X: Write>(
     }
 }
 
-fn perform<R: System + Threads + Send + 'static, W: Write, X: Write>(
+fn perform<R: HealthSystem + Threads + Send + 'static, W: Write, X: Write>(
     rt: R,
     words: &[String],
     nodelay: bool,
@@ -42,11 +42,15 @@ fn perform<R: System + Threads + Send + 'static, W: Write, X: Write>(
     errors: &mut X,
 ) -> Result<u8> {
     match read_words(rt.alloc(), words)? {
-        Asked::Serves(address, table) => serve(rt, address, nodelay, table, errors),
-        Asked::Checks(address, name) => Site::connect(rt, address, nodelay)?.check(name, output),
-        Asked::Watches(address, name) => Site::connect(rt, address, nodelay)?.watch(name, output),
-        Asked::Loops(name, table) => call_own(rt, name, nodelay, table, output),
-        Asked::Wrong => tell_usage(errors),
+        HealthCommand::Serves(address, table) => serve(rt, address, nodelay, table, errors),
+        HealthCommand::Checks(address, name) => Site::connect(rt, address, nodelay)?.check(
+            name, output,
+        ),
+        HealthCommand::Watches(address, name) => Site::connect(rt, address, nodelay)?.watch(
+            name, output,
+        ),
+        HealthCommand::Loops(name, table) => call_own(rt, name, nodelay, table, output),
+        HealthCommand::Wrong => tell_usage(errors),
     }
 }
 
@@ -56,7 +60,7 @@ fn tell_usage<X: Write>(errors: &mut X) -> Result<u8> {
 }
 
 /// Checks and then watches a name at the program's own server.
-fn call_own<R: System + Threads + Send + 'static, W: Write>(
+fn call_own<R: HealthSystem + Threads + Send + 'static, W: Write>(
     rt: R,
     name: &str,
     nodelay: bool,
@@ -71,7 +75,7 @@ fn call_own<R: System + Threads + Send + 'static, W: Write>(
 }
 
 /// Checks and then watches a name at an address. Returns the status of the first call that was refused, if one was.
-fn call_both<R: System, W: Write>(
+fn call_both<R: HealthSystem, W: Write>(
     rt: R,
     name: &str,
     address: &str,
@@ -86,7 +90,7 @@ fn call_both<R: System, W: Write>(
 }
 
 /// Returns a server at an address, with the service over this table.
-pub fn server_at<R: System>(
+pub fn server_at<R: HealthSystem>(
     rt: &R,
     handle: &Handle,
     address: &str,
@@ -99,7 +103,7 @@ pub fn server_at<R: System>(
 }
 
 /// Serves until the program is killed, and writes the address to `errors`.
-fn serve<R: System, X: Write>(
+fn serve<R: HealthSystem, X: Write>(
     rt: R,
     address: &str,
     nodelay: bool,
@@ -115,7 +119,10 @@ fn serve<R: System, X: Write>(
 }
 
 /// Writes the address where a server listens.
-pub fn tell_address<R: System, X: Write>(server: &HealthServer<R>, errors: &mut X) -> Result<()> {
+pub fn tell_address<R: HealthSystem, X: Write>(
+    server: &HealthServer<R>,
+    errors: &mut X,
+) -> Result<()> {
     if let Some(address) = server.local_addr()? {
         nix(writeln!(errors, "ttrpc-health: listens at tcp://{address}"))?;
     }

@@ -1,6 +1,6 @@
 //! The program's calls, over their own connection.
 use crate::beside::Beside;
-use crate::system::{System, nix};
+use crate::system::{HealthSystem, nix};
 use crate::telling::{tell_error, tell_status};
 use futures::Future;
 use health_stub::HealthClient;
@@ -14,7 +14,7 @@ use ttrpc_secure::Plain;
 
 /// An event loop, and a connection that is polled on it until it ends.
 #[derive(Drop)]
-struct Driver<R: System> {
+struct Driver<R: HealthSystem> {
     rt: R,
     runtime: LocalRuntime,
     connection: Option<TcpConnection<R, Plain, Plain>>,
@@ -22,12 +22,12 @@ struct Driver<R: System> {
 
 /// A client, and the driver of its connection.
 #[derive(Drop)]
-pub struct Site<R: System> {
+pub struct Site<R: HealthSystem> {
     driver: Driver<R>,
     client: HealthClient<R>,
 }
 
-impl<R: System> Site<R> {
+impl<R: HealthSystem> Site<R> {
     /// Connects to an address.
     pub fn connect(rt: R, address: &str, nodelay: bool) -> Result<Site<R>> {
         let mut runtime = nix(LocalRuntime::new(&rt))?;
@@ -76,7 +76,7 @@ impl<R: System> Site<R> {
     }
 }
 
-impl<R: System> Driver<R> {
+impl<R: HealthSystem> Driver<R> {
     /// Runs this step to its end, and polls the connection meanwhile.
     fn done<F: Future>(&mut self, step: F) -> Result<F::Output>
     where

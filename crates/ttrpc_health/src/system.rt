@@ -7,9 +7,12 @@ use ttrpc_polled::Timed;
 use ttrpc_proto::{Error, Result};
 
 /// The parts of the system that the program uses.
-pub trait System: Timed + Wait + RandomSource + Net<Listener = TcpListener, Stream = TcpStream> {}
+pub trait HealthSystem: Timed
+    + Wait
+    + RandomSource
+    + Net<Listener = TcpListener, Stream = TcpStream> {}
 
-impl<R: Timed + Wait + RandomSource + Net<Listener = TcpListener, Stream = TcpStream>> System
+impl<R: Timed + Wait + RandomSource + Net<Listener = TcpListener, Stream = TcpStream>> HealthSystem
     for R {}
 
 /// Turns a fault of the system into an error of this crate.

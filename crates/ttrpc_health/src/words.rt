@@ -5,7 +5,7 @@ use ttrpc_proto::Result;
 
 /// The command that the words give.
 #[derive(Drop)]
-pub enum Asked<'a> {
+pub enum HealthCommand<'a> {
     /// Serves this table at an address until the program is killed.
     Serves(&'a str, HealthTable),
     /// Writes the last status of a name, as a server at an address gives it.
@@ -19,23 +19,23 @@ pub enum Asked<'a> {
 }
 
 /// Reads the command that these words give. The only error is `NoMemory`.
-pub fn read_words(alloc: Global, words: &[String]) -> Result<Asked<'_>> {
+pub fn read_words(alloc: Global, words: &[String]) -> Result<HealthCommand<'_>> {
     let [first, second, rest @ ..] = words else {
-        return Ok(Asked::Wrong);
+        return Ok(HealthCommand::Wrong);
     };
     let (first, second) = (first.as_str(), second.as_str());
     match (first, rest) {
-        ("check", [name]) => Ok(Asked::Checks(second, name.as_str())),
-        ("watch", [name]) => Ok(Asked::Watches(second, name.as_str())),
+        ("check", [name]) => Ok(HealthCommand::Checks(second, name.as_str())),
+        ("watch", [name]) => Ok(HealthCommand::Watches(second, name.as_str())),
         ("serve", [_, ..]) => Ok(match read_table(alloc, rest)? {
-            Some(table) => Asked::Serves(second, table),
-            None => Asked::Wrong,
+            Some(table) => HealthCommand::Serves(second, table),
+            None => HealthCommand::Wrong,
         }),
         ("loop", [_, ..]) => Ok(match read_table(alloc, rest)? {
-            Some(table) => Asked::Loops(second, table),
-            None => Asked::Wrong,
+            Some(table) => HealthCommand::Loops(second, table),
+            None => HealthCommand::Wrong,
         }),
-        _ => Ok(Asked::Wrong),
+        _ => Ok(HealthCommand::Wrong),
     }
 }
 

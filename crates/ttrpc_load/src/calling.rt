@@ -20,11 +20,11 @@ pub trait Echoes<R: Host> {
 
 /// A client of a server's `Echo`.
 #[derive(Drop)]
-pub struct EchoClient<R: Host> {
+pub struct EchoCaller<R: Host> {
     pub client: Client<R, Plain, Plain>,
 }
 
-impl<R: Host> Echoes<R> for EchoClient<R> {
+impl<R: Host> Echoes<R> for EchoCaller<R> {
     fn echo(&self, rt: &R, payload: &[u8]) -> Result<()> {
         let response = self.client.request(request_of(rt.alloc(), payload)?)?;
         same(rt.alloc(), response.payload.as_slice(), payload)

@@ -70,7 +70,7 @@ impl fmt::Display for Rates {
 
 /// The result of a measurement.
 #[derive(Clone, Copy, Debug)]
-pub enum Told {
+pub enum Measurement {
     Figures(Figures),
     Moments(Moments),
     Rates(Rates),
@@ -78,13 +78,13 @@ pub enum Told {
     Rested(usize),
 }
 
-impl fmt::Display for Told {
+impl fmt::Display for Measurement {
     fn fmt<W: fmt::Write>(&self, f: &mut fmt::Formatter<W>) -> fmt::Result {
         match self {
-            Told::Figures(figures) => figures.fmt(f),
-            Told::Moments(moments) => moments.fmt(f),
-            Told::Rates(rates) => rates.fmt(f),
-            Told::Rested(clients) => write!(f, "{clients} clients rested"),
+            Measurement::Figures(figures) => figures.fmt(f),
+            Measurement::Moments(moments) => moments.fmt(f),
+            Measurement::Rates(rates) => rates.fmt(f),
+            Measurement::Rested(clients) => write!(f, "{clients} clients rested"),
         }
     }
 }

@@ -2,8 +2,8 @@
 ghost use Rattle.std.specs.Prelude.{◌≡◌, if◌then◌else◌, is_ok};
 
 use crate::burst::burst;
-use crate::calling::{EchoClient, Echoes, times_of};
-use crate::figures::{Figures, Rates, Told, percentile, rate};
+use crate::calling::{EchoCaller, Echoes, times_of};
+use crate::figures::{Figures, Measurement, Rates, percentile, rate};
 use crate::load::{Target, load_of};
 use crate::raw::{connect_raw, start_raw};
 use std::alloc::Global;
@@ -96,13 +96,15 @@ fn measure<R: Measured + 'static, X: Write>(
     nodelay: bool,
     shows: bool,
     errors: &mut X,
-) -> Result<Told> {
+) -> Result<Measurement> {
     let done = Arc::new(rt.alloc(), AtomicU64::new(0))?;
     let start = moment(rt)?;
     let callers = match target {
         Target::Raw => raw_callers(rt, load, nodelay, &done)?,
         Target::Server(address) => client_callers(rt, address, load, nodelay, &done)?,
-        Target::Burst(address) => return Ok(Told::Moments(burst(rt, address, load, nodelay)?)),
+        Target::Burst(address) => return Ok(Measurement::Moments(burst(
+            rt, address, load, nodelay,
+        )?)),
         Target::Polled(address) => return polled_calls(rt, address, load, nodelay),
         Target::Streams(address) => return stream_rates(rt, address, load, nodelay),
         Target::Rest(address) => return rest_all(rt, address, load.calls, nodelay),
@@ -112,27 +114,42 @@ fn measure<R: Measured + 'static, X: Write>(
     }
     let times = all_times(rt, callers)?;
     let elapsed = moment(rt)?.saturating_sub(start);
-    Ok(Told::Figures(figures_of(load, elapsed, times)))
+    Ok(Measurement::Figures(figures_of(load, elapsed, times)))
 }
 
 /// Holds `count` clients at rest. It doesn't end by itself.
-fn rest_all<R: Looped>(rt: &R, address: Option<&str>, count: usize, nodelay: bool) -> Result<Told> {
+fn rest_all<R: Looped>(
+    rt: &R,
+    address: Option<&str>,
+    count: usize,
+    nodelay: bool,
+) -> Result<Measurement> {
     match address {
         Some(address) => rest_at(rt, address, count, nodelay)?,
         None => rest(rt, count)?,
     }
-    Ok(Told::Rested(count))
+    Ok(Measurement::Rested(count))
 }
 
 /// Measures calls that are polled.
-fn polled_calls<R: Looped>(rt: &R, address: &str, load: Load, nodelay: bool) -> Result<Told> {
+fn polled_calls<R: Looped>(
+    rt: &R,
+    address: &str,
+    load: Load,
+    nodelay: bool,
+) -> Result<Measurement> {
     let Ran { elapsed, times } = run_polled(rt, address, Work::Calls, load, nodelay)?;
-    Ok(Told::Figures(figures_of(load, elapsed, times)))
+    Ok(Measurement::Figures(figures_of(load, elapsed, times)))
 }
 
 /// Measures each kind of stream, one after the other.
-fn stream_rates<R: Looped>(rt: &R, address: &str, load: Load, nodelay: bool) -> Result<Told> {
-    Ok(Told::Rates(Rates {
+fn stream_rates<R: Looped>(
+    rt: &R,
+    address: &str,
+    load: Load,
+    nodelay: bool,
+) -> Result<Measurement> {
+    Ok(Measurement::Rates(Rates {
         chat: rate_of(rt, address, Work::Chat, load, nodelay)?,
         sum: rate_of(rt, address, Work::Sum, load, nodelay)?,
         count: rate_of(rt, address, Work::Count, load, nodelay)?,
@@ -161,7 +178,7 @@ fn client_callers<R: Measured + 'static>(
     let client = Client::connect(rt.clone()?, address, nodelay)?;
     let mut callers = Vec::new(rt.alloc());
     for caller in 0..load.callers {
-        let echo = EchoClient {
+        let echo = EchoCaller {
             client: client.try_clone()?,
         };
         callers.push(start_caller(rt, echo, load, caller, done)?)?;

@@ -15,7 +15,7 @@ use ttrpc_secure::Plain;
 use ttrpc_wire::Blob;
 
 /// The line that the streams share.
-pub type Line = ClientLine<Plain, Plain>;
+pub type LoadLine = ClientLine<Plain, Plain>;
 
 /// The kind of a talk on a stream.
 #[derive(Clone, Copy, Debug, PartialEq, Eq)]
@@ -39,12 +39,12 @@ impl Talk {
 /// Both halves of an open stream.
 #[derive(Drop)]
 pub struct Halves {
-    tx: CSSender<Blob, Line>,
-    rx: CSReceiver<Blob, Line>,
+    tx: CSSender<Blob, LoadLine>,
+    rx: CSReceiver<Blob, LoadLine>,
 }
 
 /// A stream that is being opened.
-type OpeningTalk<R> = ClientOpening<ClientStream<Blob, Blob, Line>, R, Plain, Plain>;
+type OpeningTalk<R> = ClientOpening<ClientStream<Blob, Blob, LoadLine>, R, Plain, Plain>;
 
 /// The state of a talk.
 #[derive(Drop)]

@@ -45,9 +45,9 @@ pub trait Coding32 {
 }
 
 /// `int32`, and the number of an enum, which is open.
-pub struct Int32 {}
+pub struct Int32Coding {}
 
-impl Coding64 for Int32 {
+impl Coding64 for Int32Coding {
     ghost use Rattle.ttrpc_members.specs.Items.{int32};
 
     type Value = i32;
@@ -68,9 +68,9 @@ impl Coding64 for Int32 {
 }
 
 /// `int64` and `sfixed64`.
-pub struct Int64 {}
+pub struct Int64Coding {}
 
-impl Coding64 for Int64 {
+impl Coding64 for Int64Coding {
     ghost use Rattle.ttrpc_members.specs.Items.{int64};
 
     type Value = i64;
@@ -91,9 +91,9 @@ impl Coding64 for Int64 {
 }
 
 /// `uint32`.
-pub struct Uint32 {}
+pub struct Uint32Coding {}
 
-impl Coding64 for Uint32 {
+impl Coding64 for Uint32Coding {
     ghost use Rattle.ttrpc_members.specs.Items.{uint32};
 
     type Value = u32;
@@ -114,9 +114,9 @@ impl Coding64 for Uint32 {
 }
 
 /// `uint64` and `fixed64`, and the bits of a `double`.
-pub struct Uint64 {}
+pub struct Uint64Coding {}
 
-impl Coding64 for Uint64 {
+impl Coding64 for Uint64Coding {
     ghost use Rattle.ttrpc_members.specs.Items.{uint64};
 
     type Value = u64;
@@ -137,9 +137,9 @@ impl Coding64 for Uint64 {
 }
 
 /// `sint32`: zigzag, by the low 32 bits.
-pub struct Sint32 {}
+pub struct Sint32Coding {}
 
-impl Coding64 for Sint32 {
+impl Coding64 for Sint32Coding {
     ghost use Rattle.ttrpc_members.specs.Items.{sint32};
 
     type Value = i32;
@@ -160,9 +160,9 @@ impl Coding64 for Sint32 {
 }
 
 /// `sint64`: zigzag.
-pub struct Sint64 {}
+pub struct Sint64Coding {}
 
-impl Coding64 for Sint64 {
+impl Coding64 for Sint64Coding {
     ghost use Rattle.ttrpc_members.specs.Items.{sint64};
 
     type Value = i64;
@@ -183,9 +183,9 @@ impl Coding64 for Sint64 {
 }
 
 /// `bool`: any number but 0 is true.
-pub struct Boolean {}
+pub struct BooleanCoding {}
 
-impl Coding64 for Boolean {
+impl Coding64 for BooleanCoding {
     ghost use Rattle.ttrpc_members.specs.Items.{boolean};
 
     type Value = bool;
@@ -206,9 +206,9 @@ impl Coding64 for Boolean {
 }
 
 /// `fixed32`, and the bits of a `float`.
-pub struct Bits32 {}
+pub struct Bits32Coding {}
 
-impl Coding32 for Bits32 {
+impl Coding32 for Bits32Coding {
     ghost use Rattle.ttrpc_members.specs.Items.{uint32};
 
     type Value = u32;
@@ -229,9 +229,9 @@ impl Coding32 for Bits32 {
 }
 
 /// `sfixed32`.
-pub struct Signed32 {}
+pub struct Signed32Coding {}
 
-impl Coding32 for Signed32 {
+impl Coding32 for Signed32Coding {
     ghost use Rattle.ttrpc_members.specs.Items.{sfixed32};
 
     type Value = i32;

@@ -401,34 +401,34 @@ impl<C: Coding32> ItemKind for Fixed32<C> {
 }
 
 /// `int32`, and the number of an enum.
-pub type Int32 = Varint<coding::Int32>;
+pub type Int32 = Varint<coding::Int32Coding>;
 
 /// `int64`.
-pub type Int64 = Varint<coding::Int64>;
+pub type Int64 = Varint<coding::Int64Coding>;
 
 /// `uint32`.
-pub type Uint32 = Varint<coding::Uint32>;
+pub type Uint32 = Varint<coding::Uint32Coding>;
 
 /// `uint64`.
-pub type Uint64 = Varint<coding::Uint64>;
+pub type Uint64 = Varint<coding::Uint64Coding>;
 
 /// `sint32`.
-pub type Sint32 = Varint<coding::Sint32>;
+pub type Sint32 = Varint<coding::Sint32Coding>;
 
 /// `sint64`.
-pub type Sint64 = Varint<coding::Sint64>;
+pub type Sint64 = Varint<coding::Sint64Coding>;
 
 /// `bool`.
-pub type Boolean = Varint<coding::Boolean>;
+pub type Boolean = Varint<coding::BooleanCoding>;
 
 /// `fixed32`, and the bits of a `float`.
-pub type Bits32 = Fixed32<coding::Bits32>;
+pub type Bits32 = Fixed32<coding::Bits32Coding>;
 
 /// `fixed64`, and the bits of a `double`.
-pub type Bits64 = Fixed64<coding::Uint64>;
+pub type Bits64 = Fixed64<coding::Uint64Coding>;
 
 /// `sfixed32`.
-pub type Signed32 = Fixed32<coding::Signed32>;
+pub type Signed32 = Fixed32<coding::Signed32Coding>;
 
 /// `sfixed64`.
-pub type Signed64 = Fixed64<coding::Int64>;
+pub type Signed64 = Fixed64<coding::Int64Coding>;

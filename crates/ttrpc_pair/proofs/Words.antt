@@ -5,7 +5,7 @@ pub use Rattle.ttrpc_proto.specs.declared.framing.header.TheConstants.{MESSAGE_T
 pub use Rattle.ttrpc_proto.specs.Messages.{empty_request, empty_response, IsRequest, IsResponse, request_fields, request_step, response_fields, response_step}
 pub use Rattle.ttrpc_proto.specs.Framing.Queue.{empty_queue, has_begun}
 pub use Rattle.ttrpc_secure.specs.Halves.{IsPaired}
-pub use Rattle.ttrpc_connection.specs.declared.arrived.Opening.TheVariants.{Opened}
+pub use Rattle.ttrpc_connection.specs.declared.arrived.InboundResult.TheVariants.{Opened}
 pub use Rattle.ttrpc_connection.specs.Outbox.{Outbox}
 pub use Rattle.ttrpc_connection.proofs.Words.{[], ActsAll, after_report, all_at, all_behind, all_changed, all_in_front, all_joined, all_less, AllByRecursion, ap, append-nil, append_assoc, arith, associated, begun_count, between_other, between_own, Bool, cases_Bool, cases_eq, cond-false, cond-true, drop, eq-eqb, eqb-true, Err, Error, error_of, false, Fed, Feeds, filter, first_failure, given, header_of_frame, Held, if◌then◌else◌, Incoming, inl, inr, INVALID_ARGUMENT, is_some, IsTold, length, List, ltb-true, map, MESSAGE_LENGTH_MAX, MESSAGE_TYPE_REQUEST, MessageHeader, min, nat_eq, nat_lt, ne_eqb, None, nothing, Ok, open_part, Option, OutboundTransform, pushed_other, pushed_own, Queue, Queued, refl, Result, rules, safe_limit, scene, Scene, SendsAll, SendsOne, Sent, Some, subst, suc, sym, take, take-append-drop, true, under_both, under_other, under_own, Ways, with_frame, with_lent, with_payload, without, zero, ℕ, ◌&&◌, ◌++◌, ◌+◌, ◌-◌, ◌<◌, ◌^◌, ◌∙◌, ◌∷◌, ◌≡◌, ◌≢◌, ◌≤◌, ◌⊎◌}
 pub use Rattle.ttrpc_connection.specs.Feeds.{arrived as arrives, is_open, IsFailed}
@@ -18,11 +18,11 @@ pub use Rattle.ttrpc_server.proofs.RowLeaves.{AreChanged, JobsLeft, row_leaves, 
 pub use Rattle.ttrpc_server.proofs.Streams.{stream_id_of}
 pub use Rattle.ttrpc_server.proofs.Words.{Answers, Does, Drops, EndsOne, has_method, IsTaken, IsUnknown, JobList, jobs_at, MakeJob, new_job, Request, request_row, Responds, Response, response_bytes, response_size, Row, Server, serving, status_response, SendResponse}
 pub use Rattle.ttrpc_server.specs.Protocol.{AnswersError, drained, due_jobs, ExpireAll, ExpiresOne, Finishes, fit_to_message, fitted, Hands, is_due, IsErrorResponse, IsSentFor, limit_text, SendsOwnAnswer, timeout_response, Passes as ServerPasses}
-pub use Rattle.ttrpc_server.specs.Table.{asked_row, case_of, case_row, data_case, even_id_text, Ignore, inactive_text, inlet_of, MakeStream, method_text, newer_case, newest_after, other_of, path_text, PutIn, service_text}
+pub use Rattle.ttrpc_server.specs.Table.{request_kind_row, case_of, case_row, data_case, even_id_text, Ignore, inactive_text, id_state_of, MakeStream, method_text, newer_case, newest_after, other_of, path_text, PutIn, service_text}
 pub use Rattle.ttrpc_client.specs.declared.client.ClientCore.{ClientCore}
 pub use Rattle.ttrpc_client.proofs.Expiring.{stays_as_it_is}
 pub use Rattle.ttrpc_client.proofs.Ticking.{nothing_due}
-pub use Rattle.ttrpc_client.proofs.Words.{call_at, calling, Client, due_at, InboundTransform, Landing, landing_of, LandsOn, LandsOnce, last_id, Passes, taken_back, takes_back, throws}
+pub use Rattle.ttrpc_client.proofs.Words.{call_at, calling, Client, due_at, InboundTransform, CallResult, call_result_of, LandsOn, LandsOnce, last_id, Passes, taken_back, takes_back, throws}
 pub use Rattle.ttrpc_client.specs.Protocol.{by_status, Gives, request_bytes, Requests, TakesOutcome, malformed_text}
 pub use Rattle.ttrpc_world_trace.proofs.Bytes.{carried_in_flight, cut_in_flight, fed_in_flight, none_in_flight, placed_in_flight, thrown_in_flight}
 pub use Rattle.ttrpc_world_trace.proofs.Losing.{all_thrown, left_behind, stays}
@@ -34,11 +34,11 @@ pub use Rattle.ttrpc_pair.specs.Net.{Halves, halves, has_response, IsFresh, Net,
 pub use Rattle.ttrpc_pair.specs.Pipes.{empty_pipe, is_over, Pipe}
 pub use Rattle.ttrpc_pair.specs.Steps.{after_carry, AnswersBy, BreaksAt, IsEnd, pipe_after_carry, CarriesDown, CarriesUp, cut_to, CutsDown, CutsUp, Delivers, DeliversDown, DeliversUp, StaysUp, failed_by_hand, Forgot, Hears, lent_of, OnlyClient, OnlyServer, RespondsTo, Runs, Steps, taken_from}
 pub use Rattle.ttrpc_server.specs.State.{brought_by, changed_at, changed_under, has_service, has_stream, is_stream, job_at, NoneWaits, on_mail, Services, stream_body, unary_body, with_newest, without_payload}
-pub use Rattle.ttrpc_server.specs.declared.rows.Asked.TheVariants.{Call as AskedCall, NoMethod, NoService, Stream as Chat}
+pub use Rattle.ttrpc_server.specs.declared.rows.RequestKind.TheVariants.{Call as AskedCall, NoMethod, NoService, Stream as Chat}
 pub use Rattle.ttrpc_server.specs.declared.rows.Case.{Case}
 pub use Rattle.ttrpc_server.specs.declared.rows.Case.TheVariants.{Asks, EvenId}
-pub use Rattle.ttrpc_server.specs.declared.rows.Inlet.{Inlet}
-pub use Rattle.ttrpc_server.specs.declared.rows.Inlet.TheVariants.{Absent, Busy, Full, Taking}
+pub use Rattle.ttrpc_server.specs.declared.rows.StreamIdState.{StreamIdState}
+pub use Rattle.ttrpc_server.specs.declared.rows.StreamIdState.TheVariants.{Absent, Busy, Full, Taking}
 pub use Rattle.ttrpc_server.specs.declared.rules.Rules.{Rules}
 pub use Rattle.ttrpc_server.specs.declared.rules.Rules.TheVariants.{Async as AsyncRules, Sync as SyncRules}
 pub use Rattle.ttrpc_client.specs.State.{waits, stream_at}
@@ -58,7 +58,7 @@ pub use Rattle.ttrpc_client.specs.Streaming.{closed_error, DropsReceiver, DropsS
 pub use Rattle.ttrpc_client.specs.Streams.{with_sender}
 pub use Rattle.ttrpc_client.specs.declared.streams.Sender.TheVariants.{Closed as SenderClosed}
 pub use Rattle.ttrpc_client.specs.declared.streams.Sender.{Sender}
-pub use Rattle.ttrpc_client.specs.declared.streams.Stream.{Stream}
+pub use Rattle.ttrpc_client.specs.declared.streams.StreamState.{StreamState}
 pub use Rattle.ttrpc_connection.specs.Items.{SendsData}
 pub use Rattle.ttrpc_connection.specs.Mail.{Mail, without_receiver}
 pub use Rattle.ttrpc_proto.specs.Framing.Header.Oversize.{oversize_text}

@@ -14,5 +14,5 @@ pub use Rattle.ttrpc_server.specs.Protocol.{case_in}
 pub use Rattle.ttrpc_server.specs.State.{Server}
 pub use Rattle.ttrpc_server.specs.Table.{IsAbove}
 pub use Rattle.ttrpc_server.specs.declared.rows.Case.TheVariants.{NotAbove}
-pub use Rattle.ttrpc_connection.specs.declared.arrived.Opening.TheVariants.{Opened}
+pub use Rattle.ttrpc_connection.specs.declared.arrived.InboundResult.TheVariants.{Opened}
 pub use Rattle.ttrpc_proto.specs.declared.framing.header.TheConstants.{MESSAGE_TYPE_REQUEST}

@@ -8,7 +8,7 @@ use std::sync::Mutex;
 
 /// The state under the lock of a polled connection: a core, and the wakers of the tasks that wait for it. Each call makes one call of the
 /// core, as the members of this trait say, and wakes the tasks that the call concerns.
-pub trait Held: Drop {
+pub trait PolledState: Drop {
     ghost use Rattle.std.specs.Prelude.{ℕ, List, Option, Bool};
     ghost use Rattle.std.specs.declared.io.ErrorKind.{ErrorKind};
 
@@ -91,11 +91,11 @@ pub trait Held: Drop {
 }
 
 /// The state that a connection's future shares with the users of the connection.
-pub trait Connected: Drop {
+pub trait SharedConnection: Drop {
     ghost use Rattle.std.specs.Prelude.{ℕ};
 
     /// The state under the lock.
-    type Held: Held;
+    type Held: PolledState;
 
     // The source at which the connection's future waits for something to write.
     ghost asked: { Self → ℕ };

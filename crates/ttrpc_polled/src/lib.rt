@@ -5,25 +5,24 @@
 
 mod alarm;
 mod held;
-mod inlet;
 mod link;
 mod listener;
-mod outlet;
 mod piece;
+mod read_buffer;
 mod reader;
 mod room;
 mod share;
 mod socket;
 pub mod streams;
 mod wakers;
+mod write_buffer;
 
 pub use alarm::{Alarm, Timed};
-pub use held::{Connected, Held};
-pub use inlet::{INLET_AT_REST, INLET_AT_WORK, Inlet};
-pub use link::{Link, Step};
+pub use held::{PolledState, SharedConnection};
+pub use link::{ConnectionDriver, Step};
 pub use listener::Listener;
-pub use outlet::{OUTLET_AT_REST, OUTLET_LIMIT, Outlet};
 pub use piece::Piece;
+pub use read_buffer::{READ_BUFFER_AT_REST, READ_BUFFER_AT_WORK, ReadBuffer};
 pub use reader::SocketReader;
 pub use room::{RoomWakers, sooner};
 pub use share::{POLL_JOBS, POLL_TIME, Share};
@@ -38,3 +37,4 @@ pub use streams::{
 };
 pub use ttrpc_transport::moment;
 pub use wakers::Wakers;
+pub use write_buffer::{WRITE_BUFFER_AT_REST, WRITE_BUFFER_LIMIT, WriteBuffer};

@@ -10,11 +10,11 @@ ghost use Rattle.ttrpc_polled.specs.Sharing.{fresh};
 ghost use Rattle.ttrpc_polled.specs.Sockets.{IsNotMade};
 
 use crate::alarm::Alarm;
-use crate::held::{Connected, Held};
-use crate::inlet::Inlet;
-use crate::outlet::Outlet;
+use crate::held::{PolledState, SharedConnection};
 use crate::piece::Piece;
+use crate::read_buffer::ReadBuffer;
 use crate::share::Share;
+use crate::write_buffer::WriteBuffer;
 use futures::spin::lock;
 use futures::task::{Context, Poll, Source};
 use std::alloc::Global;
@@ -44,35 +44,40 @@ const LAST_WRITES: u64 = 5_000_000_000;
 
 /// The two ends of a connection, its shared state, and its alarm.
 #[derive(Drop)]
-pub struct Link<R: Clock + AllocGlobal + Drop, S, W, C> {
+pub struct ConnectionDriver<R: Clock + AllocGlobal + Drop, S, W, C> {
     rt: R,
     shared: Arc<C, Global>,
-    inlet: Inlet<S>,
+    read_buffer: ReadBuffer<S>,
     is_reading: bool,
     is_full: bool,
     ends_at: Option<u64>,
     is_late: bool,
-    outlet: Outlet<W>,
+    write_buffer: WriteBuffer<W>,
     alarm: Alarm,
 }
 
-impl<R: Clock + AllocGlobal + Drop, S: AsyncRead, W: AsyncWrite, C: Connected> Link<R, S, W, C> {
+impl<
+    R: Clock + AllocGlobal + Drop,
+    S: AsyncRead,
+    W: AsyncWrite,
+    C: SharedConnection,
+> ConnectionDriver<R, S, W, C> {
     /// Makes the link over this reader and this writer. Want of memory for their rooms at rest is `NoMemory`.
     pub fn new(rt: R, handle: &Handle, shared: Arc<C, Global>, reader: S, writer: W) -> Result<Self>
-        ensures ok { IfOk result (λ link. (link.shared ≡ shared) × (link.inlet.reader ≡ reader)
-            × (link.inlet.piece ≡ []) × (link.is_reading ≡ true) × (link.outlet.writer ≡ writer)
-            × (link.outlet.kept ≡ []) × (link.alarm.set_for ≡ None)) }
+        ensures ok { IfOk result (λ link. (link.shared ≡ shared) × (link.read_buffer.reader ≡ reader)
+            × (link.read_buffer.piece ≡ []) × (link.is_reading ≡ true) × (link.write_buffer.writer ≡ writer)
+            × (link.write_buffer.kept ≡ []) × (link.alarm.set_for ≡ None)) }
         ensures err { IfErr result IsNotMade }
     {
         let alloc = rt.alloc();
-        Ok(Link {
+        Ok(ConnectionDriver {
             shared,
-            inlet: Inlet::new(alloc, reader)?,
+            read_buffer: ReadBuffer::new(alloc, reader)?,
             is_reading: true,
             is_full: false,
             ends_at: None,
             is_late: false,
-            outlet: Outlet::new(alloc, writer)?,
+            write_buffer: WriteBuffer::new(alloc, writer)?,
             alarm: Alarm::new(&rt, handle)?,
             rt,
         })
@@ -106,10 +111,10 @@ impl<R: Clock + AllocGlobal + Drop, S: AsyncRead, W: AsyncWrite, C: Connected> L
 
     /// Returns whether the link keeps no bytes that are to be written.
     pub fn keeps_nothing(&self) -> bool
-        ensures yes { result ≡ true → self.now.outlet.kept ≡ [] }
-        ensures no { result ≡ false → self.now.outlet.kept ≢ [] }
+        ensures yes { result ≡ true → self.now.write_buffer.kept ≡ [] }
+        ensures no { result ≡ false → self.now.write_buffer.kept ≢ [] }
     {
-        self.outlet.kept.is_empty()
+        self.write_buffer.kept.is_empty()
     }
 
     /// Looks once at everything that the link waits for, and does what there is to do. The link writes and reads, and if there was nothing
@@ -161,22 +166,22 @@ impl<R: Clock + AllocGlobal + Drop, S: AsyncRead, W: AsyncWrite, C: Connected> L
             → Covers cx.new (OutNeeds W.AsyncWrite.needs C.asked self.new) }
         ensures over { result ≡ Step.Over
             → IsOver W.AsyncWrite.fails W.AsyncWrite.is_full self.new }
-        ensures inlet { (self.new.inlet ≡ self.old.inlet)
+        ensures read_buffer { (self.new.read_buffer ≡ self.old.read_buffer)
             × (self.new.is_reading ≡ self.old.is_reading) }
         ensures kept { Keeps cx.old cx.new }
     {
-        if self.outlet.kept.is_empty() {
+        if self.write_buffer.kept.is_empty() {
             match self.poll_queued(cx) {
                 Step::Moved => {}
                 step => return step,
             }
-            if self.outlet.kept.is_empty() {
+            if self.write_buffer.kept.is_empty() {
                 return Step::Moved;
             }
         } else if self.gathers_more() {
             return Step::Gathered;
         }
-        match self.outlet.poll_rest(cx) {
+        match self.write_buffer.poll_rest(cx) {
             Poll::Pending => self.poll_asked(now, cx),
             Poll::Ready(Ok(true)) => Step::Moved,
             Poll::Ready(Ok(false)) => self.broke(ErrorKind::WriteZero),
@@ -186,11 +191,11 @@ impl<R: Clock + AllocGlobal + Drop, S: AsyncRead, W: AsyncWrite, C: Connected> L
 
     /// Appends frames that waiting senders have queued since, so that they share the write. Returns whether there were any.
     fn gathers_more(&mut self) -> bool
-        ensures kept { self.old.outlet.kept ≢ [] → self.new.outlet.kept ≢ [] }
-        ensures rest { (self.new.inlet ≡ self.old.inlet)
+        ensures kept { self.old.write_buffer.kept ≢ [] → self.new.write_buffer.kept ≢ [] }
+        ensures rest { (self.new.read_buffer ≡ self.old.read_buffer)
             × (self.new.is_reading ≡ self.old.is_reading) }
     {
-        if !self.outlet.has_room() {
+        if !self.write_buffer.has_room() {
             return false;
         }
         let Some(mut held) = lock(self.shared.held()) else {
@@ -199,9 +204,9 @@ impl<R: Clock + AllocGlobal + Drop, S: AsyncRead, W: AsyncWrite, C: Connected> L
         if held.has_failed() || held.senders() == 0 {
             return false;
         }
-        let before = self.outlet.kept.bytes().len();
-        self.outlet.gather(&mut *held);
-        before < self.outlet.kept.bytes().len()
+        let before = self.write_buffer.kept.bytes().len();
+        self.write_buffer.gather(&mut *held);
+        before < self.write_buffer.kept.bytes().len()
     }
 
     /// Reports that the writer failed.
@@ -217,14 +222,14 @@ impl<R: Clock + AllocGlobal + Drop, S: AsyncRead, W: AsyncWrite, C: Connected> L
     /// Gathers queued bytes, or waits for some. If the lock isn't free, the result is `Moved`, too.
     fn poll_queued(&mut self, cx: &mut Context<'_>) -> Step
         // No gathered bytes are kept.
-        requires { self.old.outlet.kept ≡ [] }
+        requires { self.old.write_buffer.kept ≡ [] }
         // After `Waits` or `Over` no bytes are kept. After `Waits` the poll has registered for bytes to write.
         ensures waits { result ≡ Step.Waits
-            → (self.new.outlet.kept ≡ []) × IsArmed cx.new
+            → (self.new.write_buffer.kept ≡ []) × IsArmed cx.new
             × Hears cx.new (C.asked (arc_value self.new.shared)) }
-        ensures over { result ≡ Step.Over → self.new.outlet.kept ≡ [] }
+        ensures over { result ≡ Step.Over → self.new.write_buffer.kept ≡ [] }
         // The reading side is as it was. Earlier registrations are kept.
-        ensures inlet { (self.new.inlet ≡ self.old.inlet)
+        ensures read_buffer { (self.new.read_buffer ≡ self.old.read_buffer)
             × (self.new.is_reading ≡ self.old.is_reading) }
         ensures kept { Keeps cx.old cx.new }
     {
@@ -236,8 +241,8 @@ impl<R: Clock + AllocGlobal + Drop, S: AsyncRead, W: AsyncWrite, C: Connected> L
             return Step::Over;
         }
         let senders = held.senders();
-        self.outlet.gather(&mut *held);
-        if !self.outlet.kept.is_empty() {
+        self.write_buffer.gather(&mut *held);
+        if !self.write_buffer.kept.is_empty() {
             return if senders > 0 {
                 Step::Gathered
             } else {
@@ -259,8 +264,8 @@ impl<R: Clock + AllocGlobal + Drop, S: AsyncRead, W: AsyncWrite, C: Connected> L
         ensures waits { result ≡ Step.Waits
             → IsArmed cx.new × Hears cx.new (C.asked (arc_value self.new.shared)) }
         ensures over { result ≡ Step.Over → self.new.is_late ≡ true }
-        ensures rest { (self.new.inlet ≡ self.old.inlet)
-            × (self.new.is_reading ≡ self.old.is_reading) × (self.new.outlet ≡ self.old.outlet)
+        ensures rest { (self.new.read_buffer ≡ self.old.read_buffer)
+            × (self.new.is_reading ≡ self.old.is_reading) × (self.new.write_buffer ≡ self.old.write_buffer)
             × (self.new.shared ≡ self.old.shared) }
         ensures kept { Keeps cx.old cx.new }
     {
@@ -290,10 +295,10 @@ impl<R: Clock + AllocGlobal + Drop, S: AsyncRead, W: AsyncWrite, C: Connected> L
     /// Reads a piece, and hands it to the core. While the core wants no more input, nothing is read and the task is polled again. If a
     /// piece was handed on before in this poll, the next one is kept for the next poll, and this poll is over.
     fn poll_in(&mut self, share: &mut Share, cx: &mut Context<'_>) -> Step
-        ensures waits { result ≡ Step.Waits → self.new.is_reading ≡ true → self.new.inlet.piece ≡ []
-            → Covers cx.new (S.AsyncRead.needs self.new.inlet.reader) }
+        ensures waits { result ≡ Step.Waits → self.new.is_reading ≡ true → self.new.read_buffer.piece ≡ []
+            → Covers cx.new (S.AsyncRead.needs self.new.read_buffer.reader) }
         ensures goes_on { result ≢ Step.Over }
-        ensures outlet { (self.new.outlet ≡ self.old.outlet) × (self.new.shared ≡ self.old.shared)
+        ensures write_buffer { (self.new.write_buffer ≡ self.old.write_buffer) × (self.new.shared ≡ self.old.shared)
             × (self.new.alarm ≡ self.old.alarm) }
         ensures kept { Keeps cx.old cx.new }
     {
@@ -304,7 +309,7 @@ impl<R: Clock + AllocGlobal + Drop, S: AsyncRead, W: AsyncWrite, C: Connected> L
             let _: Poll<()> = cx.yield_now();
             return Step::Moved;
         }
-        let polled = self.inlet.poll_piece(cx);
+        let polled = self.read_buffer.poll_piece(cx);
         let Poll::Ready(given) = polled else {
             return Step::Waits;
         };
@@ -329,9 +334,9 @@ impl<R: Clock + AllocGlobal + Drop, S: AsyncRead, W: AsyncWrite, C: Connected> L
     /// Hands on the reader's result, at the moment of this poll. If the core lacks room for its answers, it takes nothing of a piece. The
     /// connection then waits until more of the queued bytes have left, and hands the rest on again.
     fn hand_in(&mut self, given: io::Result<bool>, share: &mut Share, cx: &mut Context<'_>) -> Step
-        ensures waits { result ≡ Step.Waits → self.new.inlet.piece ≢ [] }
+        ensures waits { result ≡ Step.Waits → self.new.read_buffer.piece ≢ [] }
         ensures goes_on { result ≢ Step.Over }
-        ensures outlet { (self.new.outlet ≡ self.old.outlet) × (self.new.shared ≡ self.old.shared)
+        ensures write_buffer { (self.new.write_buffer ≡ self.old.write_buffer) × (self.new.shared ≡ self.old.shared)
             × (self.new.alarm ≡ self.old.alarm) }
         ensures kept { Keeps cx.old cx.new }
     {
@@ -339,7 +344,7 @@ impl<R: Clock + AllocGlobal + Drop, S: AsyncRead, W: AsyncWrite, C: Connected> L
             let _: Poll<()> = cx.yield_now();
             return Step::Moved;
         };
-        let piece = &mut self.inlet.piece;
+        let piece = &mut self.read_buffer.piece;
         let before = piece.bytes().len();
         self.is_reading = hand_on(self.rt.alloc(), &mut *held, piece, given, share.now());
         self.is_full = !held.wants_input();
@@ -355,8 +360,8 @@ impl<R: Clock + AllocGlobal + Drop, S: AsyncRead, W: AsyncWrite, C: Connected> L
         ensures waits { result ≡ Step.Waits → IsSome self.new.alarm.set_for
             → Covers cx.new (λ s. s ≡ sleep_source self.new.alarm.sleep) }
         ensures goes_on { result ≢ Step.Over }
-        ensures rest { (self.new.inlet ≡ self.old.inlet)
-            × (self.new.is_reading ≡ self.old.is_reading) × (self.new.outlet ≡ self.old.outlet)
+        ensures rest { (self.new.read_buffer ≡ self.old.read_buffer)
+            × (self.new.is_reading ≡ self.old.is_reading) × (self.new.write_buffer ≡ self.old.write_buffer)
             × (self.new.shared ≡ self.old.shared) }
         ensures kept { Keeps cx.old cx.new }
     {
@@ -381,7 +386,7 @@ fn is_piece(given: &io::Result<bool>) -> bool
 }
 
 /// Reports this moment to a core, if something has expired by then.
-fn tell_moment<H: Held>(held: &mut H, now: u64)
+fn tell_moment<H: PolledState>(held: &mut H, now: u64)
     ensures { TellsMoment H.expires H.ticks held.old now held.new }
 {
     if held.next_deadline().is_some_and(|at| at <= now) {
@@ -390,7 +395,7 @@ fn tell_moment<H: Held>(held: &mut H, now: u64)
 }
 
 /// Sets the alarm for the soonest deadline, and waits at this source for something new.
-fn wait_at<R: Clock, H: Held>(
+fn wait_at<R: Clock, H: PolledState>(
     rt: &R,
     alarm: &mut Alarm,
     asked: &Source,
@@ -409,7 +414,7 @@ fn wait_at<R: Clock, H: Held>(
 
 /// Hands on the reader's result at this moment: a piece, the end, or an error. Before a piece the moment is reported to the core. Returns
 /// true if the reader is to be asked for more, since the core takes more, now or once there is room.
-fn hand_on<H: Held>(
+fn hand_on<H: PolledState>(
     alloc: Global,
     held: &mut H,
     piece: &mut Piece,

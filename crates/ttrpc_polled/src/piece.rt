@@ -5,7 +5,7 @@ ghost use Rattle.futures.specs.Poll.{OnPending};
 ghost use Rattle.tokio.specs.Io.Moved.{IfReadyErr, count_moved};
 ghost use Rattle.ttrpc_polled.specs.Passing.{TakesLoan};
 
-use crate::held::Held;
+use crate::held::PolledState;
 use futures::task::{Context, Poll};
 use std::alloc::{AllocError, Global};
 use std::io;
@@ -102,7 +102,7 @@ impl Piece {
     }
 
     /// Takes a loan, of a whole frame if there is memory for it, and returns how many bytes it has.
-    pub(crate) fn take_loan<H: Held>(&mut self, held: &mut H) -> usize
+    pub(crate) fn take_loan<H: PolledState>(&mut self, held: &mut H) -> usize
         ensures loan { TakesLoan H.lends held.old result self.old held.new self.new }
         ensures count { length self.new ≡ length self.old + result }
     {
@@ -140,7 +140,7 @@ impl Piece {
 }
 
 /// Takes a loan into this buffer, after its first `at` bytes.
-fn lend_at<H: Held>(held: &mut H, buffer: &mut [u8], at: usize) -> usize
+fn lend_at<H: PolledState>(held: &mut H, buffer: &mut [u8], at: usize) -> usize
     requires { at ≤ length buffer.old }
     ensures bound { at + result ≤ length buffer.new }
     ensures loan { TakesLoan H.lends held.old result (take at buffer.old) held.new

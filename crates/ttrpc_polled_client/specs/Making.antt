@@ -9,7 +9,7 @@ use Rattle.ttrpc_secure.specs.Hooks.Facts.{Facts, facts_of}
 use Rattle.ttrpc_secure.specs.declared.hooks.hook_error.HookError.{HookError}
 use Rattle.ttrpc_polled.specs.Connecting.{ConnectingGives}
 use Rattle.ttrpc_polled.specs.Sockets.{IsNotMade}
-use Rattle.ttrpc_polled.specs.declared.link.Link.{Link}
+use Rattle.ttrpc_polled.specs.declared.link.ConnectionDriver.{ConnectionDriver}
 use Rattle.ttrpc_polled.specs.declared.socket.Connecting.{Connecting}
 use Rattle.ttrpc_polled.specs.declared.socket.Socket.{Socket}
 use Rattle.ttrpc_polled_client.specs.declared.line.ClientLine.{ClientLine}
@@ -17,11 +17,11 @@ use Rattle.ttrpc_polled_client.specs.declared.shared.ClientShared.{ClientShared}
 
 -- The client's line and the link share one state. The link is over this reader and writer and has moved nothing, and these are the
 -- connection's data.
-pub record IsMadeOver {R S W O I : Type 0} (reader : S) (writer : W) (known : Facts) (line : ClientLine O I) (link : Link R S W (ClientShared O I)) : Type 0 where
+pub record IsMadeOver {R S W O I : Type 0} (reader : S) (writer : W) (known : Facts) (line : ClientLine O I) (link : ConnectionDriver R S W (ClientShared O I)) : Type 0 where
   pub shared : arc_value link.shared ≡ arc_value line.shared
   pub facts : facts_of line.connection_data.entries ≡ known
-  pub reads : (link.inlet.reader ≡ reader) × (link.inlet.piece ≡ []) × (link.is_reading ≡ true)
-  pub writes : (link.outlet.writer ≡ writer) × (link.outlet.kept ≡ []) × (link.alarm.set_for ≡ None)
+  pub reads : (link.read_buffer.reader ≡ reader) × (link.read_buffer.piece ≡ []) × (link.is_reading ≡ true)
+  pub writes : (link.write_buffer.writer ≡ writer) × (link.write_buffer.kept ≡ []) × (link.alarm.set_for ≡ None)
 
 -- the hook refused the connection, for a reason that the hook gives
 abbrev pub IsRefusedByHook : (HookError → Type 0) → Error → Type 0

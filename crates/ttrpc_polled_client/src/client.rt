@@ -21,7 +21,7 @@ use std::sync::Arc;
 use tokio::io::{AsyncRead, AsyncWrite};
 use tokio::runtime::Handle;
 use ttrpc_client::{ClientCore, ClientKind};
-use ttrpc_polled::{Link, Socket, Timed, moment};
+use ttrpc_polled::{ConnectionDriver, Socket, Timed, moment};
 use ttrpc_proto::error::causes::others_of;
 use ttrpc_proto::{Request, Result};
 use ttrpc_secure::{
@@ -141,7 +141,7 @@ impl<R: Timed, O: OutboundTransform + Drop, I: InboundTransform + Drop> Client<R
         let context = ConnectionContext::of_halves(alloc, outbound, inbound);
         let core = ClientCore::new(alloc, ClientKind::Async, context)?;
         let shared = Arc::new(alloc, ClientShared::new(alloc, core))?;
-        let link = Link::new(
+        let link = ConnectionDriver::new(
             rt.clone()?,
             handle,
             Arc::try_clone(&shared)?,

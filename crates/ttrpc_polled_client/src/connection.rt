@@ -8,7 +8,7 @@ use futures::task::{Context, Poll};
 use std::time::Clock;
 use tokio::io::{AsyncRead, AsyncWrite};
 use tokio::net::OwnedWriteHalf;
-use ttrpc_polled::{Link, SocketReader, Step};
+use ttrpc_polled::{ConnectionDriver, SocketReader, Step};
 use ttrpc_secure::{InboundTransform, OutboundTransform};
 
 /// The most turns of one poll, before it lets other tasks run.
@@ -26,7 +26,7 @@ pub struct ClientConnection<
     O: OutboundTransform + Drop,
     I: InboundTransform + Drop,
 > {
-    link: Link<R, S, W, ClientShared<O, I>>,
+    link: ConnectionDriver<R, S, W, ClientShared<O, I>>,
     gives_way: bool,
 }
 
@@ -41,7 +41,7 @@ impl<
     I: InboundTransform + Drop,
 > ClientConnection<R, S, W, O, I> {
     /// Makes the future over this link.
-    pub(crate) fn new(link: Link<R, S, W, ClientShared<O, I>>) -> Self
+    pub(crate) fn new(link: ConnectionDriver<R, S, W, ClientShared<O, I>>) -> Self
         ensures { result.link ≡ link }
     {
         ClientConnection {

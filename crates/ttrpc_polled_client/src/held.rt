@@ -19,7 +19,7 @@ use std::alloc::Global;
 use std::io::ErrorKind;
 use ttrpc_client::errors::deadline_error;
 use ttrpc_client::{CallId, ClientCore, StreamId};
-use ttrpc_polled::{Held, RoomWakers, Sending, StreamWakers, Wakers, sooner};
+use ttrpc_polled::{PolledState, RoomWakers, Sending, StreamWakers, Wakers, sooner};
 use ttrpc_proto::error::causes::socket_of;
 use ttrpc_proto::{Error, Response, Result};
 use ttrpc_secure::{InboundTransform, OutboundTransform};
@@ -27,7 +27,7 @@ use ttrpc_wire::Blob;
 
 /// The core of a client, and the wakers of the tasks that wait for it.
 #[derive(Drop)]
-pub struct ClientHeld<O, I> {
+pub struct PolledClientState<O, I> {
     pub core: ClientCore<O, I>,
     alloc: Global,
     callers: Wakers,
@@ -37,12 +37,12 @@ pub struct ClientHeld<O, I> {
     pub driver: Option<Waker>,
 }
 
-impl<O: OutboundTransform + Drop, I: InboundTransform + Drop> ClientHeld<O, I> {
+impl<O: OutboundTransform + Drop, I: InboundTransform + Drop> PolledClientState<O, I> {
     /// Makes the state of this core, for which no task waits.
     pub fn new(alloc: Global, core: ClientCore<O, I>) -> Self
         ensures { result.core ≡ core }
     {
-        ClientHeld {
+        PolledClientState {
             core,
             alloc,
             callers: Wakers::new(alloc),
@@ -251,7 +251,8 @@ impl<O: OutboundTransform + Drop, I: InboundTransform + Drop> ClientHeld<O, I> {
     }
 }
 
-impl<O: OutboundTransform + Drop, I: InboundTransform + Drop> Held for ClientHeld<O, I> {
+impl<O: OutboundTransform + Drop, I: InboundTransform + Drop> PolledState
+    for PolledClientState<O, I> {
     ghost use Rattle.std.specs.Prelude.{◌≡◌, ℕ, Option, length, is_some, true};
     ghost use Rattle.ttrpc_connection.specs.OneEnd.{lendable};
     ghost use Rattle.ttrpc_polled.specs.Waiting.{sooner};

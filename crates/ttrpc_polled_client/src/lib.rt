@@ -20,7 +20,7 @@ pub use calls::{
 pub use client::Client;
 pub use connect::{ClientConnect, Spawns};
 pub use connection::{ClientConnection, TcpConnection};
-pub use held::ClientHeld;
+pub use held::PolledClientState;
 pub use line::ClientLine;
 pub use opening::{ClientNewStream, Opening};
 pub use request::ClientRequest;

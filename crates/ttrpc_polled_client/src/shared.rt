@@ -1,12 +1,12 @@
 //! The state that a client's callers and its connection's future share.
 ghost use Rattle.std.specs.Prelude.{◌≡◌};
 
-use crate::held::ClientHeld;
+use crate::held::PolledClientState;
 use futures::task::Source;
 use std::alloc::Global;
 use std::sync::Mutex;
 use ttrpc_client::ClientCore;
-use ttrpc_polled::Connected;
+use ttrpc_polled::SharedConnection;
 use ttrpc_secure::{InboundTransform, OutboundTransform};
 
 /// The state that a client's callers and its connection's future share. No task reads or writes while it holds the
@@ -18,7 +18,7 @@ pub struct ClientShared<O, I> {
     pub came: Source,
     /// The source at which the connection's future waits for something to write.
     pub asked: Source,
-    pub held: Mutex<ClientHeld<O, I>>,
+    pub held: Mutex<PolledClientState<O, I>>,
 }
 
 impl<O: OutboundTransform + Drop, I: InboundTransform + Drop> ClientShared<O, I> {
@@ -27,17 +27,18 @@ impl<O: OutboundTransform + Drop, I: InboundTransform + Drop> ClientShared<O, I>
         ClientShared {
             came: Source::new(),
             asked: Source::new(),
-            held: Mutex::new(ClientHeld::new(alloc, core)),
+            held: Mutex::new(PolledClientState::new(alloc, core)),
         }
     }
 }
 
-impl<O: OutboundTransform + Drop, I: InboundTransform + Drop> Connected for ClientShared<O, I> {
-    type Held = ClientHeld<O, I>;
+impl<O: OutboundTransform + Drop, I: InboundTransform + Drop> SharedConnection
+    for ClientShared<O, I> {
+    type Held = PolledClientState<O, I>;
 
     ghost asked = { λ shared. shared.asked.id };
 
-    fn held(&self) -> &Mutex<ClientHeld<O, I>> {
+    fn held(&self) -> &Mutex<PolledClientState<O, I>> {
         &self.held
     }
 

@@ -4,8 +4,8 @@ use Rattle.std.specs.Prelude.{◌≡◌, ⊤, ℕ}
 use Rattle.ttrpc_polled.specs.Streams.Needs.{opening_needs, receiver_source, sender_source}
 use Rattle.ttrpc_polled.specs.Streams.Handling.{AtCanPoll, AtNeeds}
 use Rattle.ttrpc_polled_echo.specs.declared.chat.Chatting.{Chatting}
-use Rattle.ttrpc_polled_echo.specs.declared.chat.Turn.{Turn}
-use Rattle.ttrpc_polled_echo.specs.declared.chat.Turn.TheVariants.{Receives, Sends, Done}
+use Rattle.ttrpc_polled_echo.specs.declared.chat.ChatState.{ChatState}
+use Rattle.ttrpc_polled_echo.specs.declared.chat.ChatState.TheVariants.{Receives, Sends, Done}
 use Rattle.ttrpc_polled_echo.specs.declared.count.Counted.{Counted}
 use Rattle.ttrpc_polled_echo.specs.declared.service.MethodCall.{MethodCall}
 use Rattle.ttrpc_polled_echo.specs.declared.service.MethodCall.TheVariants.{Echoes, Waits}
@@ -15,7 +15,7 @@ use Rattle.ttrpc_polled_echo.specs.declared.count.Counted.TheVariants.{Opens, Se
 
 module _ {L I : Type 0} (came : L → ℕ) where
   -- a chat waits for an item, or until one is sent
-  abbrev pub TurnNeeds : Chatting L I → Turn → ℕ → Type 0
+  abbrev pub TurnNeeds : Chatting L I → ChatState → ℕ → Type 0
   TurnNeeds c Receives s = s ≡ receiver_source came c.receiver.rx
   TurnNeeds c (Sends sending) s = s ≡ sender_source came c.sender.tx
   TurnNeeds c Done s = ⊥

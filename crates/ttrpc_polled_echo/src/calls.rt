@@ -1,7 +1,7 @@
 //! The program's calls, each over its own connection.
 use crate::beside::Beside;
-use crate::echo_client::{EchoClient, Line};
-use crate::system::{System, nix};
+use crate::echo_client::{EchoClient, EchoLine};
+use crate::system::{ChatSystem, nix};
 use crate::telling::{tell_end, tell_item, tell_outcome};
 use futures::Future;
 use std::io::Write;
@@ -14,7 +14,7 @@ use ttrpc_wire::Blob;
 
 /// An event loop, and a connection that is polled on it until it ends.
 #[derive(Drop)]
-struct Driver<R: System> {
+struct Driver<R: ChatSystem> {
     rt: R,
     runtime: LocalRuntime,
     connection: Option<TcpConnection<R, Plain, Plain>>,
@@ -22,12 +22,12 @@ struct Driver<R: System> {
 
 /// A client, and the driver of its connection.
 #[derive(Drop)]
-pub struct Site<R: System> {
+pub struct Site<R: ChatSystem> {
     driver: Driver<R>,
     client: EchoClient<R>,
 }
 
-impl<R: System> Site<R> {
+impl<R: ChatSystem> Site<R> {
     /// Connects to an address.
     pub fn connect(rt: R, address: &str, nodelay: bool) -> Result<Site<R>> {
         let mut runtime = nix(LocalRuntime::new(&rt))?;
@@ -84,7 +84,7 @@ impl<R: System> Site<R> {
     }
 }
 
-impl<R: System> Driver<R> {
+impl<R: ChatSystem> Driver<R> {
     /// Runs this step to its end, and polls the connection meanwhile.
     fn done<F: Future>(&mut self, step: F) -> Result<F::Output>
     where
@@ -98,7 +98,7 @@ impl<R: System> Driver<R> {
     /// Sends an item, and writes the item that comes back. Returns the status if the stream ended instead.
     fn talk<W: Write>(
         &mut self,
-        stream: &mut ClientStream<Blob, Blob, Line>,
+        stream: &mut ClientStream<Blob, Blob, EchoLine>,
         item: &Blob,
         output: &mut W,
     ) -> Result<Option<u8>> {
@@ -111,7 +111,7 @@ impl<R: System> Driver<R> {
     /// Closes a chat, and writes how it ends. Returns the status.
     fn end_chat<W: Write>(
         &mut self,
-        stream: &mut ClientStream<Blob, Blob, Line>,
+        stream: &mut ClientStream<Blob, Blob, EchoLine>,
         output: &mut W,
     ) -> Result<u8> {
         self.done(stream.close_send())??;
@@ -120,7 +120,11 @@ impl<R: System> Driver<R> {
     }
 
     /// Sends an item.
-    fn send(&mut self, stream: &ClientStreamSender<Blob, Blob, Line>, item: &Blob) -> Result<()> {
+    fn send(
+        &mut self,
+        stream: &ClientStreamSender<Blob, Blob, EchoLine>,
+        item: &Blob,
+    ) -> Result<()> {
         self.done(stream.send(item))?
     }
 

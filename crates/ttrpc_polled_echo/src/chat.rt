@@ -15,7 +15,7 @@ const TURNS: u32 = 64;
 
 /// The state of a chat.
 #[derive(Drop)]
-enum Turn {
+enum ChatState {
     /// The chat waits for an item.
     Receives,
     /// The chat sends an item back.
@@ -29,7 +29,7 @@ enum Turn {
 pub struct Chatting<L: StreamLine> {
     sender: SSSender<Blob, L>,
     receiver: SSReceiver<Blob, L>,
-    turn: Turn,
+    turn: ChatState,
     has_item: bool,
 }
 
@@ -40,7 +40,7 @@ impl<L: StreamLine> Chatting<L> {
         Chatting {
             sender,
             receiver,
-            turn: Turn::Receives,
+            turn: ChatState::Receives,
             has_item: false,
         }
     }
@@ -53,11 +53,11 @@ impl<L: StreamLine> Chatting<L> {
     {
         match self.receiver.poll_recv(cx) {
             Poll::Pending => {
-                self.turn = Turn::Receives;
+                self.turn = ChatState::Receives;
                 Poll::Pending
             }
             Poll::Ready(Ok(Some(item))) => {
-                self.turn = Turn::Sends(Sending::Sends(item));
+                self.turn = ChatState::Sends(Sending::Sends(item));
                 self.has_item = true;
                 Poll::Ready(None)
             }
@@ -75,11 +75,11 @@ impl<L: StreamLine> Chatting<L> {
         let mut sending = sending;
         match self.sender.poll_sending(&mut sending, cx) {
             Poll::Pending => {
-                self.turn = Turn::Sends(sending);
+                self.turn = ChatState::Sends(sending);
                 Poll::Pending
             }
             Poll::Ready(Ok(())) => {
-                self.turn = Turn::Receives;
+                self.turn = ChatState::Receives;
                 Poll::Ready(None)
             }
             Poll::Ready(Err(error)) => Poll::Ready(Some(Err(error))),
@@ -91,10 +91,10 @@ impl<L: StreamLine> Chatting<L> {
         ensures registered { OnPending result (Covers cx.new (ChattingNeeds L.came self.new)) }
         ensures kept { Keeps cx.old cx.new }
     {
-        match replace(&mut self.turn, Turn::Done) {
-            Turn::Receives => self.poll_item(cx),
-            Turn::Sends(sending) => self.poll_sending(sending, cx),
-            Turn::Done => Poll::Ready(Some(Err(Error::LocalClosed))),
+        match replace(&mut self.turn, ChatState::Done) {
+            ChatState::Receives => self.poll_item(cx),
+            ChatState::Sends(sending) => self.poll_sending(sending, cx),
+            ChatState::Done => Poll::Ready(Some(Err(Error::LocalClosed))),
         }
     }
 }

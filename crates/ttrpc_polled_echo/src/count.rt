@@ -27,16 +27,16 @@ enum Counted<L: StreamLine> {
 
 /// A running count.
 #[derive(Drop)]
-pub struct Counting<L: StreamLine> {
+pub struct RunningCount<L: StreamLine> {
     alloc: Global,
     sent: u32,
     at: Counted<L>,
 }
 
-impl<L: StreamLine> Counting<L> {
+impl<L: StreamLine> RunningCount<L> {
     /// Begins a count on this stream.
-    pub fn new(alloc: Global, opening: ServerStreamOpening<Blob, Blob, L>) -> Counting<L> {
-        Counting {
+    pub fn new(alloc: Global, opening: ServerStreamOpening<Blob, Blob, L>) -> RunningCount<L> {
+        RunningCount {
             alloc,
             sent: 0,
             at: Counted::Opens(opening),
@@ -117,7 +117,7 @@ impl<L: StreamLine> Counting<L> {
     }
 }
 
-impl<L: StreamLine> Future for Counting<L> {
+impl<L: StreamLine> Future for RunningCount<L> {
     type Output = Result<()>;
 
     ghost use Rattle.ttrpc_polled_echo.specs.Needs.{CountingNeeds};

@@ -1,5 +1,5 @@
 //! A client of `demo.Echo`.
-use crate::system::System;
+use crate::system::ChatSystem;
 use ttrpc_message::Context;
 use ttrpc_polled::{ClientStream, ClientStreamSender};
 use ttrpc_polled_client::{
@@ -11,17 +11,17 @@ use ttrpc_wire::Blob;
 
 /// A client of `demo.Echo`.
 #[derive(Drop)]
-pub struct EchoClient<R: System> {
+pub struct EchoClient<R: ChatSystem> {
     pub client: Client<R, Plain, Plain>,
 }
 
 /// The line that the program's streams share.
-pub type Line = ClientLine<Plain, Plain>;
+pub type EchoLine = ClientLine<Plain, Plain>;
 
 /// A stream that is being opened.
-type Opening<K, R> = ClientOpening<K, R, Plain, Plain>;
+type EchoOpening<K, R> = ClientOpening<K, R, Plain, Plain>;
 
-impl<R: System> EchoClient<R> {
+impl<R: ChatSystem> EchoClient<R> {
     fn context(&self) -> Context {
         Context::new(self.client.alloc())
     }
@@ -34,19 +34,19 @@ impl<R: System> EchoClient<R> {
     }
 
     /// Opens `Chat`.
-    pub fn chat(&self) -> Opening<ClientStream<Blob, Blob, Line>, R> {
+    pub fn chat(&self) -> EchoOpening<ClientStream<Blob, Blob, EchoLine>, R> {
         let ctx = self.context();
         async_client_stream!(self, ctx, "demo.Echo", "Chat")
     }
 
     /// Opens `Sum`.
-    pub fn sum(&self) -> Opening<ClientStreamSender<Blob, Blob, Line>, R> {
+    pub fn sum(&self) -> EchoOpening<ClientStreamSender<Blob, Blob, EchoLine>, R> {
         let ctx = self.context();
         async_client_stream_send!(self, ctx, "demo.Echo", "Sum")
     }
 
     /// Opens `Count` with this request.
-    pub fn count(&self, req: &Blob) -> Opening<ClientStreamReceiver<Blob, R, Plain, Plain>, R> {
+    pub fn count(&self, req: &Blob) -> EchoOpening<ClientStreamReceiver<Blob, R, Plain, Plain>, R> {
         let ctx = self.context();
         async_client_stream_receive!(self, ctx, req, "demo.Echo", "Count")
     }

@@ -19,6 +19,6 @@ mod words;
 
 pub use calls::Site;
 pub use echo_client::EchoClient;
-pub use program::{EchoServer, run, server_at};
+pub use program::{ChatServer, run, server_at};
 pub use service::{EchoMethod, EchoStream, services};
-pub use system::{System, nix};
+pub use system::{ChatSystem, nix};

@@ -6,22 +6,22 @@ use ttrpc_wire::Blob;
 
 /// A call without a response.
 #[derive(Drop)]
-pub struct Waiting {
+pub struct UnansweredCall {
     never: Source,
     slot: Option<Waker>,
 }
 
-impl Waiting {
+impl UnansweredCall {
     /// Returns a future that is never ready.
-    pub fn new() -> Waiting {
-        Waiting {
+    pub fn new() -> UnansweredCall {
+        UnansweredCall {
             never: Source::new(),
             slot: None,
         }
     }
 }
 
-impl Future for Waiting {
+impl Future for UnansweredCall {
     type Output = Result<Blob>;
 
     fn poll(&mut self, cx: &mut Context<'_>) -> Poll<Result<Blob>> {

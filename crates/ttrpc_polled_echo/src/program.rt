@@ -2,8 +2,8 @@
 use crate::calls::Site;
 use crate::service::{EchoMethod, EchoStream, services};
 use crate::serving::ServesFor;
-use crate::system::{System, nix};
-use crate::words::{Asked, Call, read_words};
+use crate::system::{ChatSystem, nix};
+use crate::words::{ChatCommand, EchoCall, read_words};
 use std::io::Write;
 use std::time::Duration;
 use tokio::runtime::{Handle, LocalRuntime};
@@ -15,7 +15,7 @@ const USAGE: &str =
 
 /// Runs the command that the words give, and reports failures on `errors`. With `nodelay`, each write goes out at once.
 /// Returns the status: 0, or 1 at a failure or a refused call, or 2 if the words are wrong.
-pub fn run<R: System, W: Write, X: Write>(
+pub fn run<R: ChatSystem, W: Write, X: Write>(
     rt: R,
     words: &[String],
     nodelay: bool,
@@ -31,7 +31,7 @@ pub fn run<R: System, W: Write, X: Write>(
     }
 }
 
-fn perform<R: System, W: Write, X: Write>(
+fn perform<R: ChatSystem, W: Write, X: Write>(
     rt: R,
     words: &[String],
     nodelay: bool,
@@ -39,9 +39,9 @@ fn perform<R: System, W: Write, X: Write>(
     errors: &mut X,
 ) -> Result<u8> {
     match read_words(rt.alloc(), words)? {
-        Asked::Serves(address, seconds) => serve(rt, address, nodelay, seconds, errors),
-        Asked::Calls(address, call) => call_at(rt, address, nodelay, &call, output),
-        Asked::Wrong => tell_usage(errors),
+        ChatCommand::Serves(address, seconds) => serve(rt, address, nodelay, seconds, errors),
+        ChatCommand::Calls(address, call) => call_at(rt, address, nodelay, &call, output),
+        ChatCommand::Wrong => tell_usage(errors),
     }
 }
 
@@ -51,37 +51,41 @@ fn tell_usage<X: Write>(errors: &mut X) -> Result<u8> {
 }
 
 /// Connects to an address, and makes a call.
-fn call_at<R: System, W: Write>(
+fn call_at<R: ChatSystem, W: Write>(
     rt: R,
     address: &str,
     nodelay: bool,
-    call: &Call,
+    call: &EchoCall,
     output: &mut W,
 ) -> Result<u8> {
     let mut site = Site::connect(rt, address, nodelay)?;
     call_by(&mut site, call, output)
 }
 
-fn call_by<R: System, W: Write>(site: &mut Site<R>, call: &Call, output: &mut W) -> Result<u8> {
+fn call_by<R: ChatSystem, W: Write>(
+    site: &mut Site<R>,
+    call: &EchoCall,
+    output: &mut W,
+) -> Result<u8> {
     match call {
-        Call::Unary(item) => site.call(item, output),
-        Call::Chat(items) => site.chat(items.as_slice(), output),
-        Call::Sum(items) => site.sum(items.as_slice(), output),
-        Call::Count(count) => site.count(*count, output),
+        EchoCall::Unary(item) => site.call(item, output),
+        EchoCall::Chat(items) => site.chat(items.as_slice(), output),
+        EchoCall::Sum(items) => site.sum(items.as_slice(), output),
+        EchoCall::Count(count) => site.count(*count, output),
     }
 }
 
 /// The server of the program.
-pub type EchoServer<R> = Server<R, EchoMethod, EchoStream>;
+pub type ChatServer<R> = Server<R, EchoMethod, EchoStream>;
 
 /// Returns a server at an address, with the services of the program. A stream that is opened without a payload begins
 /// without an item.
-pub fn server_at<R: System>(
+pub fn server_at<R: ChatSystem>(
     rt: &R,
     handle: &Handle,
     address: &str,
     nodelay: bool,
-) -> Result<EchoServer<R>> {
+) -> Result<ChatServer<R>> {
     Ok(
         Server::new(rt.clone()?, handle)?
             .bind(address, nodelay)?
@@ -91,7 +95,7 @@ pub fn server_at<R: System>(
 }
 
 /// Serves for a number of seconds, or until the program is killed, and writes the address to `errors`.
-fn serve<R: System, X: Write>(
+fn serve<R: ChatSystem, X: Write>(
     rt: R,
     address: &str,
     nodelay: bool,
@@ -112,10 +116,10 @@ fn serve<R: System, X: Write>(
 }
 
 /// Serves for `seconds` seconds, and then shuts the server down.
-fn serve_for<R: System>(
+fn serve_for<R: ChatSystem>(
     rt: &R,
     runtime: &mut LocalRuntime,
-    mut server: EchoServer<R>,
+    mut server: ChatServer<R>,
     seconds: u64,
 ) -> Result<()> {
     let time = nix(
@@ -128,7 +132,7 @@ fn serve_for<R: System>(
     nix(runtime.run_all(rt, ServesFor::new(server, serving, time)))
 }
 
-fn tell_address<R: System, X: Write>(server: &EchoServer<R>, errors: &mut X) -> Result<()> {
+fn tell_address<R: ChatSystem, X: Write>(server: &ChatServer<R>, errors: &mut X) -> Result<()> {
     if let Some(address) = server.local_addr()? {
         nix(writeln!(errors, "ttrpc-chat: listens at tcp://{address}"))?;
     }

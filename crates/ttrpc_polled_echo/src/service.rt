@@ -2,9 +2,9 @@
 ghost use Rattle.ttrpc_polled_echo.specs.Needs.{MethodCallCanPoll, StreamCallCanPoll};
 
 use crate::chat::Chatting;
-use crate::count::Counting;
+use crate::count::RunningCount;
 use crate::echo::Echoing;
-use crate::never::Waiting;
+use crate::never::UnansweredCall;
 use crate::sum::Summing;
 use futures::Future;
 use futures::task::{Context, Poll};
@@ -23,17 +23,17 @@ use ttrpc_wire::Blob;
 
 /// The service `demo.Echo`.
 #[derive(Clone, Copy, Debug)]
-pub struct Echo {}
+pub struct EchoService {}
 
-impl Echo {
+impl EchoService {
     /// Responds with the request's item.
     fn echo(&self, _ctx: &TtrpcContext, item: Blob) -> Echoing {
         Echoing { item: Some(item) }
     }
 
     /// Never responds.
-    fn never(&self, _ctx: &TtrpcContext, _item: Blob) -> Waiting {
-        Waiting::new()
+    fn never(&self, _ctx: &TtrpcContext, _item: Blob) -> UnansweredCall {
+        UnansweredCall::new()
     }
 
     /// Sends each item back.
@@ -59,15 +59,15 @@ impl Echo {
         &self,
         ctx: &TtrpcContext,
         opening: ServerStreamOpening<Blob, Blob, L>,
-    ) -> Counting<L> {
-        Counting::new(ctx.alloc(), opening)
+    ) -> RunningCount<L> {
+        RunningCount::new(ctx.alloc(), opening)
     }
 }
 
 /// The handlers of the methods.
 #[derive(Clone, Copy, Debug)]
 pub struct EchoMethod {
-    service: Echo,
+    service: EchoService,
     kind: MethodKind,
 }
 
@@ -84,7 +84,7 @@ pub enum MethodCall {
     /// A call of `Echo`.
     Echoes(Handling<Echoing, Responds<Blob>>),
     /// A call of `Never`.
-    Waits(Handling<Waiting, Responds<Blob>>),
+    Waits(Handling<UnansweredCall, Responds<Blob>>),
 }
 
 impl Future for MethodCall {
@@ -122,7 +122,7 @@ impl MethodHandler for EchoMethod {
 /// The handlers of the streams.
 #[derive(Clone, Copy, Debug)]
 pub struct EchoStream {
-    service: Echo,
+    service: EchoService,
     kind: StreamKind,
 }
 
@@ -142,7 +142,7 @@ pub enum StreamCall<L: StreamLine> {
     /// A call of `Sum`.
     Sums(Handling<Summing<L>, EndsBy<Blob>>),
     /// A call of `Count`.
-    Counts(Handling<Counting<L>, Closes>),
+    Counts(Handling<RunningCount<L>, Closes>),
 }
 
 impl<L: StreamLine> Future for StreamCall<L> {
@@ -190,7 +190,7 @@ pub fn services(
     let mut service = Service::new(alloc);
     for (name, kind) in [("Echo", MethodKind::Echo), ("Never", MethodKind::Never)] {
         let method = EchoMethod {
-            service: Echo {},
+            service: EchoService {},
             kind,
         };
         service
@@ -203,7 +203,7 @@ pub fn services(
         ("Count", StreamKind::Count),
     ] {
         let stream = EchoStream {
-            service: Echo {},
+            service: EchoService {},
             kind,
         };
         service

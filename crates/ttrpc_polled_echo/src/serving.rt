@@ -2,9 +2,9 @@
 ghost use Rattle.futures.specs.Poll.{OnPending};
 ghost use Rattle.futures.specs.Task.{IsArmed, Keeps};
 
-use crate::program::EchoServer;
+use crate::program::ChatServer;
 use crate::service::{EchoMethod, EchoStream};
-use crate::system::System;
+use crate::system::ChatSystem;
 use futures::task::{Context, Poll};
 use futures::{Future, Stream};
 use tokio::time::Sleep;
@@ -17,8 +17,8 @@ pub type EchoConnection<R> = TcpServerConnection<R, EchoMethod, EchoStream, Plai
 /// Accepts the connections of a server until a time is over, and then shuts the server down. The stream ends after the
 /// shutdown.
 #[derive(Drop)]
-pub struct ServesFor<R: System> {
-    server: EchoServer<R>,
+pub struct ServesFor<R: ChatSystem> {
+    server: ChatServer<R>,
     serving: Option<Serving<R, EchoMethod, EchoStream, NoHook>>,
     until: Until,
 }
@@ -32,10 +32,10 @@ enum Until {
     Shutdown(Shutdown),
 }
 
-impl<R: System> ServesFor<R> {
+impl<R: ChatSystem> ServesFor<R> {
     /// Returns the stream of the server's connections, which shuts the server down when the time is over.
     pub fn new(
-        server: EchoServer<R>,
+        server: ChatServer<R>,
         serving: Serving<R, EchoMethod, EchoStream, NoHook>,
         time: Sleep,
     ) -> ServesFor<R> {
@@ -74,7 +74,7 @@ impl<R: System> ServesFor<R> {
     }
 }
 
-impl<R: System> Stream for ServesFor<R> {
+impl<R: ChatSystem> Stream for ServesFor<R> {
     type Item = EchoConnection<R>;
 
     ghost use Rattle.std.specs.Prelude.{IfSome};

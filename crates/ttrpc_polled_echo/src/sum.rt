@@ -36,7 +36,7 @@ impl<L: StreamLine> Summing<L> {
     }
 
     /// Returns both numbers, each in eight bytes in big-endian order.
-    fn told(&self) -> Result<Blob> {
+    fn encode_totals(&self) -> Result<Blob> {
         let mut told = Vec::with_capacity(self.alloc, 16)?;
         told.extend_from_slice(&self.items.to_be_bytes())?;
         told.extend_from_slice(&self.bytes.to_be_bytes())?;
@@ -57,10 +57,10 @@ impl<L: StreamLine> Future for Summing<L> {
             match self.receiver.poll_recv(cx) {
                 Poll::Pending => return Poll::Pending,
                 Poll::Ready(Ok(Some(item))) => self.add(&item),
-                Poll::Ready(Ok(None)) => return Poll::Ready(self.told()),
+                Poll::Ready(Ok(None)) => return Poll::Ready(self.encode_totals()),
                 // A peer may flag its last item as the last.
                 Poll::Ready(Err(Error::RemoteClosed)) if self.items > 0 => {
-                    return Poll::Ready(self.told());
+                    return Poll::Ready(self.encode_totals());
                 }
                 Poll::Ready(Err(error)) => return Poll::Ready(Err(error)),
             }

@@ -6,18 +6,18 @@ use ttrpc_wire::Blob;
 
 /// The command that the words give.
 #[derive(Drop)]
-pub enum Asked<'a> {
+pub enum ChatCommand<'a> {
     /// Serves at an address, for this number of seconds or until the program is killed.
     Serves(&'a str, Option<u64>),
     /// Calls a server at an address.
-    Calls(&'a str, Call),
+    Calls(&'a str, EchoCall),
     /// The words give no command.
     Wrong,
 }
 
 /// A call, with its items or their count.
 #[derive(Drop)]
-pub enum Call {
+pub enum EchoCall {
     Unary(Blob),
     Chat(Vec<Blob>),
     Sum(Vec<Blob>),
@@ -25,36 +25,36 @@ pub enum Call {
 }
 
 /// Reads the command that these words give. Returns an error only if memory is refused.
-pub fn read_words(alloc: Global, words: &[String]) -> Result<Asked<'_>> {
+pub fn read_words(alloc: Global, words: &[String]) -> Result<ChatCommand<'_>> {
     let [first, address, rest @ ..] = words else {
-        return Ok(Asked::Wrong);
+        return Ok(ChatCommand::Wrong);
     };
     let address = address.as_str();
     let call = match (first.as_str(), rest) {
-        ("serve", []) => return Ok(Asked::Serves(address, None)),
+        ("serve", []) => return Ok(ChatCommand::Serves(address, None)),
         ("serve", [seconds]) => match seconds.as_str().parse::<u64>() {
-            Ok(seconds) => return Ok(Asked::Serves(address, Some(seconds))),
-            Err(_) => return Ok(Asked::Wrong),
+            Ok(seconds) => return Ok(ChatCommand::Serves(address, Some(seconds))),
+            Err(_) => return Ok(ChatCommand::Wrong),
         },
         ("unary", [digits]) => match bytes_of(alloc, digits.as_str())? {
-            Some(item) => Call::Unary(item),
-            None => return Ok(Asked::Wrong),
+            Some(item) => EchoCall::Unary(item),
+            None => return Ok(ChatCommand::Wrong),
         },
         ("chat", items) => match all_bytes(alloc, items)? {
-            Some(items) => Call::Chat(items),
-            None => return Ok(Asked::Wrong),
+            Some(items) => EchoCall::Chat(items),
+            None => return Ok(ChatCommand::Wrong),
         },
         ("sum", items) => match all_bytes(alloc, items)? {
-            Some(items) => Call::Sum(items),
-            None => return Ok(Asked::Wrong),
+            Some(items) => EchoCall::Sum(items),
+            None => return Ok(ChatCommand::Wrong),
         },
         ("count", [number]) => match number.as_str().parse::<u32>() {
-            Ok(number) => Call::Count(number),
-            Err(_) => return Ok(Asked::Wrong),
+            Ok(number) => EchoCall::Count(number),
+            Err(_) => return Ok(ChatCommand::Wrong),
         },
-        _ => return Ok(Asked::Wrong),
+        _ => return Ok(ChatCommand::Wrong),
     };
-    Ok(Asked::Calls(address, call))
+    Ok(ChatCommand::Calls(address, call))
 }
 
 /// Reads the bytes of all these words. Returns `None` if one of them isn't an even number of hexadecimal digits.

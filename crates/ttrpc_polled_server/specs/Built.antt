@@ -10,7 +10,7 @@ use Rattle.ttrpc_transport.specs.Sockets.{IsFault}
 use Rattle.ttrpc_polled_server.specs.Served.{Served, ServesAll}
 use Rattle.ttrpc_polled_server.specs.declared.services.Service.{Service}
 use Rattle.ttrpc_polled_server.specs.declared.settings.Settings.{Settings}
-use Rattle.ttrpc_polled_server.specs.declared.stop.Stop.{Stop}
+use Rattle.ttrpc_polled_server.specs.declared.stop.StopState.{StopState}
 
 -- a server: its settings, its listener, its services, its hook, its watch, and the state by which its connections stop
 pub record Built (M T A V : Type 0) : Type 0 where
@@ -19,7 +19,7 @@ pub record Built (M T A V : Type 0) : Type 0 where
   pub services : Served M T
   pub hook : A
   pub watch : V
-  pub stop : Stop
+  pub stop : StopState
 
 -- the settings of a new server
 pub record IsNewSettings (s : Settings) : Type 0 where

@@ -23,19 +23,19 @@ module _ {R M T S W O I F G : Type 0} where
   abbrev pub CanPoll : (F → Type 0) → (G → Type 0) → ServerConnection R M T S W O I F G → Type 0
   CanPoll method stream c = AllPollable (λ (f : Finishing F G O I). f.ended ≡ None → HandledCanPoll method stream f.running.handled) (set_places c.jobs)
 
-  -- only its handlers, its pace and the end that it hasn't reported changed
+  -- only its handlers, its batch of answers and the end that it hasn't reported changed
   abbrev pub IsSameBeside : ServerConnection R M T S W O I F G → ServerConnection R M T S W O I F G → Type 0
-  IsSameBeside old new = new ≡ record old { jobs = new.jobs; pace = new.pace; untold = new.untold }
+  IsSameBeside old new = new ≡ record old { jobs = new.jobs; answer_batch = new.answer_batch; untold = new.untold }
 
   -- Before a poll of the connection does anything else, it has asked to be woken when the connection is to end, unless
   -- it ends already.
   abbrev pub HasAsked : ServerConnection R M T S W O I F G → Context → Type 0
-  HasAsked c cx = c.is_ending ≡ false → Covers cx (λ s. s ≡ (arc_value c.seat.stop).told.id)
+  HasAsked c cx = c.is_ending ≡ false → Covers cx (λ s. s ≡ (arc_value c.connection_slot.stop).told.id)
 
   -- The connection waits to learn that it is to end. It also waits for the end of its time, if it ends or its time has
   -- a limit.
   abbrev pub EndNeeds : ServerConnection R M T S W O I F G → ℕ → Type 0
-  EndNeeds c s = ((c.is_ending ≡ false) × (s ≡ (arc_value c.seat.stop).told.id)) ⊎ (((c.is_ending ≡ true) ⊎ IsSome c.grace.set_for) × (s ≡ sleep_source c.grace.sleep))
+  EndNeeds c s = ((c.is_ending ≡ false) × (s ≡ (arc_value c.connection_slot.stop).told.id)) ⊎ (((c.is_ending ≡ true) ⊎ IsSome c.grace.set_for) × (s ≡ sleep_source c.grace.sleep))
 
   -- The connection waits for its handlers, if some run, for its link, unless that is over, and for its end.
   abbrev pub ConnectionNeeds : (S → ℕ → Type 0) → (W → ℕ → Type 0) → ServerConnection R M T S W O I F G → ℕ → Type 0

@@ -8,7 +8,7 @@ use Rattle.ttrpc_proto.specs.declared.error.Error.{Error}
 use Rattle.ttrpc_proto.specs.declared.error.Error.TheVariants.{LocalClosed, NoMemory, Others}
 use Rattle.ttrpc_polled_server.specs.declared.stop.Disconnect.{Disconnect as ADisconnect}
 use Rattle.ttrpc_polled_server.specs.declared.stop.Shutdown.{Shutdown as AShutdown}
-use Rattle.ttrpc_polled_server.specs.declared.stop.Stop.{Stop}
+use Rattle.ttrpc_polled_server.specs.declared.stop.StopState.{StopState}
 use Rattle.ttrpc_polled_server.specs.declared.stop.StopListen.{StopListen as AStopListen}
 use Rattle.ttrpc_polled_server.specs.declared.stop.Stopping.{Stopping}
 use Rattle.ttrpc_polled_server.specs.declared.stop.Stopping.TheVariants.{Listens, Disconnects, Done}
@@ -35,22 +35,22 @@ StoppingGives (Disconnects connections) r = IfErr r IsLeftOver
 StoppingGives Done r = r ≡ Err LocalClosed
 
 -- The future waits for the listener of a server that stops by this state, exactly if one listens.
-pub record StopsListening (stop : Stop) (is_listening : Bool) (s : AStopListen) : Type 0 where
+pub record StopsListening (stop : StopState) (is_listening : Bool) (s : AStopListen) : Type 0 where
   pub own : arc_value s.stop ≡ stop
   pub waits : s.is_listening ≡ is_listening
 
 -- The future ends the connections of a server that stops by this state, and waits this long for
 -- them.
-pub record EndsConnections (stop : Stop) (limit : Duration) (d : ADisconnect) : Type 0 where
+pub record EndsConnections (stop : StopState) (limit : Duration) (d : ADisconnect) : Type 0 where
   pub own : arc_value d.stop ≡ stop
   pub delay : IsDelayedBy limit (sleep_deadline d.limit)
 
 -- the stop is to begin: first with the listener, and then with the connections
-abbrev pub BeginsStop : Stop → Bool → Duration → Stopping → Type 0
+abbrev pub BeginsStop : StopState → Bool → Duration → Stopping → Type 0
 BeginsStop stop is_listening limit (Listens listener connections) = StopsListening stop is_listening listener × EndsConnections stop limit connections
 BeginsStop stop is_listening limit (Disconnects connections) = ⊥
 BeginsStop stop is_listening limit Done = ⊥
 
 -- the shutdown stops a server that stops by this state, and is to begin
-abbrev pub IsShutdown : Stop → Bool → Duration → AShutdown → Type 0
+abbrev pub IsShutdown : StopState → Bool → Duration → AShutdown → Type 0
 IsShutdown stop is_listening limit s = (arc_value s.stop ≡ stop) × BeginsStop stop is_listening limit s.at

@@ -8,14 +8,14 @@ ghost use Rattle.ttrpc_polled_server.specs.Handling.{HandledCanPoll};
 ghost use Rattle.ttrpc_polled.specs.Needs.{LinkNeeds};
 ghost use Rattle.ttrpc_polled_server.specs.Needs.{CanPoll, ConnectionNeeds, EndNeeds, HasAsked, IsSameBeside, asked_source};
 
+use crate::answer_batch::AnswerBatch;
 use crate::ended::Ended;
 use crate::handler::{MethodHandler, StreamHandler, TtrpcContext};
 use crate::input_end::InputEnd;
-use crate::pace::Pace;
 use crate::running::{Finishing, Handled, Running};
 use crate::services::Services;
 use crate::shared::ServerShared;
-use crate::stop::Seat;
+use crate::stop::ConnectionSlot;
 use futures::spin::lock;
 use futures::stream::FuturesUnordered;
 use futures::task::{Context, Poll};
@@ -24,7 +24,7 @@ use std::alloc::Global;
 use std::sync::Arc;
 use std::time::{Clock, Duration};
 use tokio::io::{AsyncRead, AsyncWrite};
-use ttrpc_polled::{Alarm, Link, Share, Step, StreamInner, Timed, moment};
+use ttrpc_polled::{Alarm, ConnectionDriver, Share, Step, StreamInner, Timed, moment};
 use ttrpc_proto::{Error, MessageHeader, Request, Result};
 use ttrpc_secure::{ConnectionData, InboundTransform, OutboundTransform};
 use ttrpc_server::{Job, JobId};
@@ -50,15 +50,15 @@ pub struct ServerConnection<
     I: InboundTransform + Drop,
 > {
     rt: R,
-    link: Link<R, S, W, ServerShared<O, I>>,
+    link: ConnectionDriver<R, S, W, ServerShared<O, I>>,
     shared: Arc<ServerShared<O, I>, Global>,
     services: Arc<Services<M, T>, Global>,
     connection_data: Arc<ConnectionData, Global>,
-    seat: Seat,
+    connection_slot: ConnectionSlot,
     jobs: FuturesUnordered<Finishing<M::Call, T::Call, O, I>>,
     // The end of a job that couldn't begin, while there is no room to report it.
     untold: Option<(JobId, Ended)>,
-    pace: Pace,
+    answer_batch: AnswerBatch,
     is_over: bool,
     is_ending: bool,
     is_leaving: bool,
@@ -70,11 +70,11 @@ pub struct ServerConnection<
 
 /// The parts of a connection beside its two ends.
 #[derive(Drop)]
-pub(crate) struct Parts<M: Drop, T: Drop, O, I> {
+pub(crate) struct ConnectionParts<M: Drop, T: Drop, O, I> {
     pub(crate) shared: Arc<ServerShared<O, I>, Global>,
     pub(crate) services: Arc<Services<M, T>, Global>,
     pub(crate) connection_data: Arc<ConnectionData, Global>,
-    pub(crate) seat: Seat,
+    pub(crate) connection_slot: ConnectionSlot,
     pub(crate) grace: Alarm,
     pub(crate) limit: Duration,
     pub(crate) half_close: Option<Duration>,
@@ -94,21 +94,21 @@ where
     /// Makes the future over this link, of these parts. No handler runs yet.
     pub(crate) fn new(
         rt: R,
-        link: Link<R, S, W, ServerShared<O, I>>,
-        parts: Parts<M, T, O, I>,
+        link: ConnectionDriver<R, S, W, ServerShared<O, I>>,
+        parts: ConnectionParts<M, T, O, I>,
     ) -> Result<Self>
         ensures can { IfOk result (CanPoll M.Call.Future.can_poll T.Call.Future.can_poll) }
         ensures made { IfOk result (λ c. (c.link ≡ link) × (c.shared ≡ parts.shared)
             × (c.services ≡ parts.services) × (c.connection_data ≡ parts.connection_data)
-            × (c.seat ≡ parts.seat) × (c.limit ≡ parts.limit) × (c.half_close ≡ parts.half_close)
+            × (c.connection_slot ≡ parts.connection_slot) × (c.limit ≡ parts.limit) × (c.half_close ≡ parts.half_close)
             × (c.is_over ≡ false) × (c.is_ending ≡ false) × (c.is_leaving ≡ false)) }
         ensures err { IfErr result (λ e. e ≡ AnError.NoMemory) }
     {
-        let Parts {
+        let ConnectionParts {
             shared,
             services,
             connection_data,
-            seat,
+            connection_slot,
             grace,
             limit,
             half_close,
@@ -122,8 +122,8 @@ where
             shared,
             services,
             connection_data,
-            seat,
-            pace: Pace::new(),
+            connection_slot,
+            answer_batch: AnswerBatch::new(),
             is_over: false,
             is_ending: false,
             is_leaving: false,
@@ -160,15 +160,15 @@ where
     /// does.
     fn is_to_end(&mut self, cx: &mut Context<'_>) -> bool
         ensures asked { result ≡ false
-            → Covers cx.new (λ s. s ≡ (arc_value self.new.seat.stop).told.id) }
-        ensures rest { (self.new ≡ record self.old { seat = self.new.seat })
-            × (self.new.seat.stop ≡ self.old.seat.stop) }
+            → Covers cx.new (λ s. s ≡ (arc_value self.new.connection_slot.stop).told.id) }
+        ensures rest { (self.new ≡ record self.old { connection_slot = self.new.connection_slot })
+            × (self.new.connection_slot.stop ≡ self.old.connection_slot.stop) }
         ensures kept { Keeps cx.old cx.new }
     {
         if self.is_over {
             return true;
         }
-        self.seat.is_told(cx)
+        self.connection_slot.is_told(cx)
     }
 
     /// Begins or ends a job; if there is none, moves bytes and looks whether the connection may end.
@@ -186,12 +186,12 @@ where
     {
         if self.works(cx) {
             share.worked(&self.rt);
-            if self.pace.leaves() {
+            if self.answer_batch.leaves() {
                 self.flush(share, cx);
             }
             return Step::Moved;
         }
-        self.pace = Pace::new();
+        self.answer_batch = AnswerBatch::new();
         match self.poll_link(share, cx) {
             Step::Waits => self.poll_end(cx),
             step => step,
@@ -242,7 +242,7 @@ where
             return false;
         };
         if given.is_some() {
-            self.pace.one_more();
+            self.answer_batch.one_more();
         }
         true
     }
@@ -266,14 +266,14 @@ where
         ensures jobs { self.new.jobs ≡ self.old.jobs }
         ensures kept { Keeps cx.old cx.new }
     {
-        if self.pace.ends() {
+        if self.answer_batch.ends() {
             self.flush(share, cx);
         }
     }
 
     /// Lets ready answers leave, unless the link is over.
     fn flush(&mut self, share: &mut Share, cx: &mut Context<'_>)
-        ensures rest { (self.new.jobs ≡ self.old.jobs) × (self.new.seat ≡ self.old.seat)
+        ensures rest { (self.new.jobs ≡ self.old.jobs) × (self.new.connection_slot ≡ self.old.connection_slot)
             × (self.new.grace ≡ self.old.grace) × (self.new.is_ending ≡ self.old.is_ending) }
         ensures kept { Keeps cx.old cx.new }
     {
@@ -286,7 +286,7 @@ where
     fn poll_link(&mut self, share: &mut Share, cx: &mut Context<'_>) -> Step
         ensures waits { result ≡ Step.Waits → (self.new.is_over ≡ true) ⊎ Covers cx.new
             (LinkNeeds S.AsyncRead.needs W.AsyncWrite.needs asked_source self.new.link) }
-        ensures rest { (self.new.jobs ≡ self.old.jobs) × (self.new.seat ≡ self.old.seat)
+        ensures rest { (self.new.jobs ≡ self.old.jobs) × (self.new.connection_slot ≡ self.old.connection_slot)
             × (self.new.grace ≡ self.old.grace) × (self.new.is_ending ≡ self.old.is_ending) }
         ensures kept { Keeps cx.old cx.new }
     {
@@ -376,7 +376,7 @@ where
         match finishing.poll(cx) {
             Poll::Pending => self.keep(finishing),
             Poll::Ready(()) => {
-                self.pace.one_more();
+                self.answer_batch.one_more();
                 Ok(())
             }
         }
@@ -464,7 +464,7 @@ where
         if !self.tells(id, &ended) {
             self.untold = Some((id, ended));
         }
-        self.pace.one_more();
+        self.answer_batch.one_more();
     }
 
     /// Reports to the core how a job ended. Returns whether there was room for the report.
@@ -503,7 +503,7 @@ where
     /// Takes no more input, and limits the time of the handlers that run.
     fn begin_end(&mut self)
         ensures rest { (self.new.jobs ≡ self.old.jobs) × (self.new.link ≡ self.old.link)
-            × (self.new.is_over ≡ self.old.is_over) × (self.new.seat ≡ self.old.seat) }
+            × (self.new.is_over ≡ self.old.is_over) × (self.new.connection_slot ≡ self.old.connection_slot) }
         ensures ends { self.new.is_ending ≡ true }
     {
         self.is_ending = true;
@@ -663,10 +663,10 @@ where
             shared,
             services: _,
             connection_data: _,
-            seat,
+            connection_slot,
             jobs,
             untold: _,
-            pace: _,
+            answer_batch: _,
             is_over: _,
             is_ending: _,
             is_leaving: _,
@@ -680,6 +680,6 @@ where
         }
         drop(jobs);
         drop(link);
-        drop(seat);
+        drop(connection_slot);
     }
 }

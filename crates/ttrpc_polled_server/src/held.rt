@@ -25,7 +25,7 @@ use std::alloc::Global;
 use std::io::ErrorKind;
 use std::sync::Arc;
 use ttrpc_connection::{Failure, StreamCore};
-use ttrpc_polled::{Held, RoomWakers, Sending, StreamWakers, Wakers, sooner};
+use ttrpc_polled::{PolledState, RoomWakers, Sending, StreamWakers, Wakers, sooner};
 use ttrpc_proto::{Error, Result};
 use ttrpc_secure::{InboundTransform, OutboundTransform};
 use ttrpc_server::{Job, JobId, ServerCore};
@@ -33,7 +33,7 @@ use ttrpc_wire::Blob;
 
 /// The core of a server, and the wakers of the tasks that wait for it.
 #[derive(Drop)]
-pub struct ServerHeld<O, I> {
+pub struct PolledServerState<O, I> {
     pub core: ServerCore<O, I>,
     alloc: Global,
     running: Wakers,
@@ -49,7 +49,7 @@ pub struct ServerHeld<O, I> {
     pub driver: Option<Waker>,
 }
 
-impl<O: OutboundTransform + Drop, I: InboundTransform + Drop> ServerHeld<O, I> {
+impl<O: OutboundTransform + Drop, I: InboundTransform + Drop> PolledServerState<O, I> {
     /// Makes the state of this core, for which no task waits, with these settings. `input_end` learns when the input has ended.
     pub fn new(
         alloc: Global,
@@ -60,7 +60,7 @@ impl<O: OutboundTransform + Drop, I: InboundTransform + Drop> ServerHeld<O, I> {
         ensures { (result.core ≡ core) × (result.settings ≡ settings) × (result.input_ended ≡ false)
             × (result.is_gone ≡ false) × (result.drains ≡ false) × (result.pause ≡ None) }
     {
-        ServerHeld {
+        PolledServerState {
             core,
             alloc,
             running: Wakers::new(alloc),
@@ -425,7 +425,8 @@ impl<O: OutboundTransform + Drop, I: InboundTransform + Drop> ServerHeld<O, I> {
     }
 }
 
-impl<O: OutboundTransform + Drop, I: InboundTransform + Drop> Held for ServerHeld<O, I> {
+impl<O: OutboundTransform + Drop, I: InboundTransform + Drop> PolledState
+    for PolledServerState<O, I> {
     ghost use Rattle.std.specs.Prelude.{◌≡◌, ℕ, Option, None, filter, length, true, is_some};
     ghost use Rattle.std.specs.declared.io.ErrorKind.TheVariants.{TimedOut};
     ghost use Rattle.ttrpc_server.specs.State.{waits};

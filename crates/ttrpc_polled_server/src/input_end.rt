@@ -18,12 +18,12 @@ use ttrpc_proto::Result;
 pub struct InputEnd {
     has_come: AtomicBool,
     source: Source,
-    held: Mutex<Waiting>,
+    held: Mutex<EndWakers>,
 }
 
 /// The wakers of the tasks that wait for the end, each under a number.
 #[derive(Drop)]
-struct Waiting {
+struct EndWakers {
     wakers: Wakers,
     next: u64,
 }
@@ -34,7 +34,7 @@ impl InputEnd {
         InputEnd {
             has_come: AtomicBool::new(false),
             source: Source::new(),
-            held: Mutex::new(Waiting {
+            held: Mutex::new(EndWakers {
                 wakers: Wakers::new(alloc),
                 next: 0,
             }),

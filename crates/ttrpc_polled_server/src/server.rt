@@ -14,10 +14,10 @@ ghost use Rattle.ttrpc_transport.specs.Sockets.{IsFault};
 use crate::connection::ServerConnection;
 use crate::handler::{MethodHandler, StreamHandler};
 use crate::services::{Service, Services};
-use crate::serving::{Service as Served, Serving};
+use crate::serving::{ConnectionMaker as Served, Serving};
 use crate::settings::{Settings, unbound_error};
 use crate::shared::ServerShared;
-use crate::stop::{Disconnect, Shutdown, Stop, StopListen};
+use crate::stop::{Disconnect, Shutdown, StopListen, StopState};
 use std::alloc::Global;
 use std::collections::BTreeMap;
 use std::marker::Model;
@@ -42,7 +42,7 @@ pub struct Server<R: Timed, M: Drop, T: Drop, A: Drop = NoHook, V: Watch + Drop 
     services: Arc<Services<M, T>, Global>,
     hook: Arc<A, Global>,
     watch: Arc<V, Global>,
-    stop: Arc<Stop, Global>,
+    stop: Arc<StopState, Global>,
 }
 
 impl<R: Timed, M: Drop, T: Drop, A: Drop, V: Watch + Drop> Model for Server<R, M, T, A, V> {
@@ -75,7 +75,7 @@ impl<R: Timed, M: Drop, T: Drop> Server<R, M, T, NoHook, NoWatch> {
             services: Arc::new(alloc, Services::new(alloc))?,
             hook: Arc::new(alloc, NoHook {})?,
             watch: Arc::new(alloc, NoWatch {})?,
-            stop: Arc::new(alloc, Stop::new(alloc)?)?,
+            stop: Arc::new(alloc, StopState::new(alloc)?)?,
             rt,
         })
     }

@@ -8,7 +8,7 @@ ghost use Rattle.ttrpc_polled_server.specs.Served.{ServesAll, ServesOne};
 use std::alloc::{AllocError, Global};
 use std::collections::{BTreeMap, BTreeSet};
 use std::marker::Model;
-use ttrpc_server::{Methods, Named, Registry};
+use ttrpc_server::{Methods, NameKind, Registry};
 use ttrpc_wire::Text;
 
 /// The methods and the streams of a service, each under its name.
@@ -106,7 +106,8 @@ impl<M: Drop, T: Drop> Services<M, T> {
             → has_stream registry s n ≡ is_some (handler_of self.now.streams s n)) }
     {
         let mut registry = self.methods.registry(alloc)?;
-        self.streams.name_in(&mut registry, alloc, Named::Streams)?;
+        self.streams
+            .name_in(&mut registry, alloc, NameKind::Streams)?;
         self.name_all(&mut registry, alloc)?;
         Ok(registry)
     }

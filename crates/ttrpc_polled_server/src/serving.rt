@@ -9,13 +9,13 @@ ghost use Rattle.ttrpc_polled.specs.Sockets.{IsNotMade};
 ghost use Rattle.ttrpc_polled_server.specs.Needs.{AcceptNeeds, CanPoll, ServingNeeds};
 ghost use Rattle.ttrpc_polled_server.specs.Opened.{IsAccepted, IsNotOpened, IsOpened, IsPassing};
 
-use crate::connection::{Parts, ServerConnection};
+use crate::connection::{ConnectionParts, ServerConnection};
 use crate::handler::{MethodHandler, StreamHandler};
 use crate::input_end::InputEnd;
 use crate::services::Services;
 use crate::settings::Settings;
 use crate::shared::ServerShared;
-use crate::stop::Stop;
+use crate::stop::StopState;
 use futures::task::{Context, Poll};
 use futures::{Stream, ready};
 use std::alloc::Global;
@@ -25,7 +25,7 @@ use std::time::Clock;
 use tokio::io::{AsyncRead, AsyncWrite};
 use tokio::net::OwnedWriteHalf;
 use tokio::runtime::Handle;
-use ttrpc_polled::{Alarm, Link, Listener, Socket, SocketReader, Timed, moment};
+use ttrpc_polled::{Alarm, ConnectionDriver, Listener, Socket, SocketReader, Timed, moment};
 use ttrpc_proto::error::causes::others_of;
 use ttrpc_proto::{Error, Result};
 use ttrpc_secure::{
@@ -48,17 +48,17 @@ pub type TcpServerConnection<R, M, T, O, I> = ServerConnection<
 
 /// The parts with which a server serves its connections.
 #[derive(Drop)]
-pub(crate) struct Service<R, M: Drop, T: Drop, A, V> {
+pub(crate) struct ConnectionMaker<R, M: Drop, T: Drop, A, V> {
     pub(crate) rt: R,
     pub(crate) handle: Handle,
     pub(crate) services: Arc<Services<M, T>, Global>,
     pub(crate) hook: Arc<A, Global>,
     pub(crate) watch: Arc<V, Global>,
-    pub(crate) stop: Arc<Stop, Global>,
+    pub(crate) stop: Arc<StopState, Global>,
     pub(crate) settings: Settings,
 }
 
-impl<R: Timed, M: MethodHandler, T: Drop, A, V> Service<R, M, T, A, V> {
+impl<R: Timed, M: MethodHandler, T: Drop, A, V> ConnectionMaker<R, M, T, A, V> {
     /// Makes a connection over this reader and this writer, with a hook's output.
     pub(crate) fn open<S, W, O, I>(
         &self,
@@ -116,20 +116,20 @@ impl<R: Timed, M: MethodHandler, T: Drop, A, V> Service<R, M, T, A, V> {
         shared: &Arc<ServerShared<O, I>, Global>,
         reader: S,
         writer: W,
-    ) -> Result<Link<R, S, W, ServerShared<O, I>>>
+    ) -> Result<ConnectionDriver<R, S, W, ServerShared<O, I>>>
     where
         S: AsyncRead,
         W: AsyncWrite,
         O: OutboundTransform + Drop,
         I: InboundTransform + Drop,
         ensures ok { IfOk result (λ link. (arc_value link.shared ≡ arc_value shared.now)
-            × (link.inlet.reader ≡ reader) × (link.inlet.piece ≡ []) × (link.is_reading ≡ true)
-            × (link.outlet.writer ≡ writer) × (link.outlet.kept ≡ [])
+            × (link.read_buffer.reader ≡ reader) × (link.read_buffer.piece ≡ []) × (link.is_reading ≡ true)
+            × (link.write_buffer.writer ≡ writer) × (link.write_buffer.kept ≡ [])
             × (link.alarm.set_for ≡ None)) }
         ensures err { IfErr result IsNotMade }
     {
         let line = Arc::try_clone(shared)?;
-        Link::new(self.rt.clone()?, &self.handle, line, reader, writer)
+        ConnectionDriver::new(self.rt.clone()?, &self.handle, line, reader, writer)
     }
 
     /// Makes the other parts of a connection.
@@ -138,23 +138,23 @@ impl<R: Timed, M: MethodHandler, T: Drop, A, V> Service<R, M, T, A, V> {
         shared: Arc<ServerShared<O, I>, Global>,
         input_end: Arc<InputEnd, Global>,
         connection_data: ConnectionData,
-    ) -> Result<Parts<M, T, O, I>>
+    ) -> Result<ConnectionParts<M, T, O, I>>
     where
         O: OutboundTransform + Drop,
         I: InboundTransform + Drop,
         ensures ok { IfOk result (λ parts. (parts.shared ≡ shared)
             × (arc_value parts.services ≡ arc_value self.now.services)
             × (arc_value parts.connection_data ≡ connection_data)
-            × (arc_value parts.seat.stop ≡ arc_value self.now.stop)
+            × (arc_value parts.connection_slot.stop ≡ arc_value self.now.stop)
             × (parts.limit ≡ self.now.settings.connection_limit)
             × (parts.half_close ≡ self.now.settings.half_close_limit)) }
         ensures err { IfErr result IsNotOpened }
     {
-        Ok(Parts {
+        Ok(ConnectionParts {
             shared,
             services: Arc::try_clone(&self.services)?,
             connection_data: Arc::new(self.rt.alloc(), connection_data)?,
-            seat: Stop::seat(&self.stop)?,
+            connection_slot: StopState::connection_slot(&self.stop)?,
             grace: Alarm::new(&self.rt, &self.handle)?,
             limit: self.settings.connection_limit,
             half_close: self.settings.half_close_limit,
@@ -174,7 +174,7 @@ impl<R: Timed, M: MethodHandler, T: Drop, A, V> Service<R, M, T, A, V> {
 
 /// The connections that a server accepts, each as a future that is to be polled, until the server listens no more.
 pub struct Serving<R: Timed, M: Drop, T: Drop, A: Drop, V: Watch + Drop = NoWatch> {
-    with: Service<R, M, T, A, V>,
+    with: ConnectionMaker<R, M, T, A, V>,
     // `None` after it was given back, because no more connections are to be accepted.
     listener: Option<Listener>,
     number: u64,
@@ -185,7 +185,7 @@ pub struct Serving<R: Timed, M: Drop, T: Drop, A: Drop, V: Watch + Drop = NoWatc
 
 impl<R: Timed, M: Drop, T: Drop, A: Drop, V: Watch + Drop> Serving<R, M, T, A, V> {
     /// Makes the connections of this listener.
-    pub(crate) fn new(with: Service<R, M, T, A, V>, listener: Listener, rest: Alarm) -> Self
+    pub(crate) fn new(with: ConnectionMaker<R, M, T, A, V>, listener: Listener, rest: Alarm) -> Self
         ensures { (result.with ≡ with) × (result.listener ≡ Some listener)
             × (result.rests ≡ false) }
     {

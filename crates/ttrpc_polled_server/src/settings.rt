@@ -84,7 +84,7 @@ impl Settings {
         if !self.is_fixed {
             return Ok(());
         }
-        Err(told(alloc, "services are fixed after start"))
+        Err(refusal_error(alloc, "services are fixed after start"))
     }
 }
 
@@ -102,11 +102,11 @@ fn is_within(limit: Option<u64>, count: u64) -> bool
 pub(crate) fn unbound_error(alloc: Global) -> Error
     ensures { IsUnbound result }
 {
-    told(alloc, "ttrpc-rust server started with no bound listener")
+    refusal_error(alloc, "ttrpc-rust server started with no bound listener")
 }
 
 /// Makes the error with this text, or `NoMemory` if memory for the text was refused.
-fn told(alloc: Global, text: &str) -> Error
+fn refusal_error(alloc: Global, text: &str) -> Error
     ensures { IsToldBy text.now result }
 {
     match Text::from_str(alloc, text) {

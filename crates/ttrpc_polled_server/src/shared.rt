@@ -4,14 +4,14 @@ ghost use Rattle.futures.specs.Poll.{OnPending};
 ghost use Rattle.futures.specs.Task.{Covers, Keeps};
 
 use crate::ended::Ended;
-use crate::held::ServerHeld;
+use crate::held::PolledServerState;
 use crate::input_end::InputEnd;
 use crate::settings::Settings;
 use futures::spin::lock;
 use futures::task::{Context, Poll, Source};
 use std::alloc::Global;
 use std::sync::{Arc, Mutex};
-use ttrpc_polled::{Connected, Kind, Sending, StreamLine};
+use ttrpc_polled::{Kind, Sending, SharedConnection, StreamLine};
 use ttrpc_proto::Result;
 use ttrpc_secure::{InboundTransform, OutboundTransform};
 use ttrpc_server::{JobId, ServerCore};
@@ -24,7 +24,7 @@ pub struct ServerShared<O, I> {
     pub came: Source,
     /// The source at which the connection's future waits for something to write.
     pub asked: Source,
-    pub held: Mutex<ServerHeld<O, I>>,
+    pub held: Mutex<PolledServerState<O, I>>,
 }
 
 impl<O: OutboundTransform + Drop, I: InboundTransform + Drop> ServerShared<O, I> {
@@ -38,7 +38,7 @@ impl<O: OutboundTransform + Drop, I: InboundTransform + Drop> ServerShared<O, I>
         ServerShared {
             came: Source::new(),
             asked: Source::new(),
-            held: Mutex::new(ServerHeld::new(alloc, core, settings, input_end)),
+            held: Mutex::new(PolledServerState::new(alloc, core, settings, input_end)),
         }
     }
 
@@ -78,12 +78,13 @@ impl<O: OutboundTransform + Drop, I: InboundTransform + Drop> ServerShared<O, I>
     }
 }
 
-impl<O: OutboundTransform + Drop, I: InboundTransform + Drop> Connected for ServerShared<O, I> {
-    type Held = ServerHeld<O, I>;
+impl<O: OutboundTransform + Drop, I: InboundTransform + Drop> SharedConnection
+    for ServerShared<O, I> {
+    type Held = PolledServerState<O, I>;
 
     ghost asked = { λ shared. shared.asked.id };
 
-    fn held(&self) -> &Mutex<ServerHeld<O, I>> {
+    fn held(&self) -> &Mutex<PolledServerState<O, I>> {
         &self.held
     }
 

@@ -23,7 +23,7 @@ use ttrpc_shutdown::{Notifier, Waiter, new};
 
 /// The state that a server, its connections and the tasks that stop it share.
 #[derive(Drop)]
-pub struct Stop {
+pub struct StopState {
     /// The source at which the connections, and the task that accepts them, wait for the request to stop.
     pub told: Source,
     /// The source at which tasks wait for the end of a connection or for the return of the listener.
@@ -48,20 +48,20 @@ struct Places {
 }
 
 /// A connection's place. The connection counts until its place is dropped.
-pub struct Seat {
-    stop: Arc<Stop, Global>,
+pub struct ConnectionSlot {
+    stop: Arc<StopState, Global>,
     number: u64,
     waiter: Option<Waiter>,
 }
 
-impl Stop {
+impl StopState {
     /// Makes the state of a server that isn't stopped, and has no connections.
-    pub fn new(alloc: Global) -> Result<Stop>
+    pub fn new(alloc: Global) -> Result<StopState>
         ensures err { IfErr result (λ e. e ≡ AnError.NoMemory) }
     {
         let (notifier, waiter) = new(alloc)?;
         drop(waiter);
-        Ok(Stop {
+        Ok(StopState {
             told: Source::new(),
             left: Source::new(),
             held: Mutex::new(Places {
@@ -79,8 +79,8 @@ impl Stop {
     }
 
     /// Makes a place for a connection. The error is `LocalClosed` once all connections have ended after a `disconnect`.
-    pub fn seat(this: &Arc<Stop, Global>) -> Result<Seat>
-        ensures ok { IfOk result (λ seat. arc_value seat.stop ≡ arc_value this.now) }
+    pub fn connection_slot(this: &Arc<StopState, Global>) -> Result<ConnectionSlot>
+        ensures ok { IfOk result (λ connection_slot. arc_value connection_slot.stop ≡ arc_value this.now) }
         ensures err { IfErr result (λ e. (e ≡ AnError.NoMemory) ⊎ (e ≡ AnError.LocalClosed)) }
     {
         let stop = Arc::try_clone(this)?;
@@ -95,7 +95,7 @@ impl Stop {
         let number = places.next;
         places.seats.insert(number, None)?;
         places.next = number.saturating_add(1);
-        Ok(Seat {
+        Ok(ConnectionSlot {
             stop,
             number,
             waiter: Some(waiter),
@@ -241,7 +241,7 @@ impl Stop {
     }
 }
 
-impl Seat {
+impl ConnectionSlot {
     /// Returns whether the connection is to end. If not, its task is woken once it is.
     pub fn is_told(&mut self, cx: &mut Context<'_>) -> bool
         ensures waits { IsFalse result
@@ -270,7 +270,7 @@ impl Seat {
     }
 }
 
-impl Drop for Seat {
+impl Drop for ConnectionSlot {
     fn drop(self) {
         let Self {
             stop,
@@ -291,14 +291,14 @@ impl Drop for Seat {
 /// The listener of a server, on its way back. Ready once no more connections are accepted.
 #[derive(Drop)]
 pub struct StopListen {
-    stop: Arc<Stop, Global>,
+    stop: Arc<StopState, Global>,
     number: u64,
     is_listening: bool,
 }
 
 impl StopListen {
     /// Makes the future for a server that listens, or doesn't.
-    pub(crate) fn new(stop: Arc<Stop, Global>, is_listening: bool) -> StopListen
+    pub(crate) fn new(stop: Arc<StopState, Global>, is_listening: bool) -> StopListen
         ensures { (result.stop ≡ stop) × (result.is_listening ≡ is_listening) }
     {
         StopListen {
@@ -329,14 +329,14 @@ impl Future for StopListen {
 #[derive(Drop)]
 pub struct Disconnect {
     alloc: Global,
-    stop: Arc<Stop, Global>,
+    stop: Arc<StopState, Global>,
     number: u64,
     limit: Sleep,
 }
 
 impl Disconnect {
     /// Makes the end of the connections that stop by this state, within this time.
-    pub(crate) fn new(alloc: Global, stop: Arc<Stop, Global>, limit: Sleep) -> Disconnect
+    pub(crate) fn new(alloc: Global, stop: Arc<StopState, Global>, limit: Sleep) -> Disconnect
         ensures { (result.stop ≡ stop) × (result.limit ≡ limit) }
     {
         Disconnect {
@@ -408,14 +408,14 @@ enum Stopping {
 /// The end of a server: its listener is closed, and then its connections end, as by `Disconnect`. One limit holds for both.
 #[derive(Drop)]
 pub struct Shutdown {
-    stop: Arc<Stop, Global>,
+    stop: Arc<StopState, Global>,
     at: Stopping,
 }
 
 impl Shutdown {
     /// Makes the shutdown of a server that stops by these.
     pub(crate) fn new(
-        stop: Arc<Stop, Global>,
+        stop: Arc<StopState, Global>,
         listener: StopListen,
         connections: Disconnect,
     ) -> Shutdown

@@ -6,11 +6,11 @@ use Rattle.ttrpc_proto.specs.declared.framing.header.TheConstants.{MESSAGE_HEADE
 use Rattle.ttrpc_proto.specs.declared.framing.outgoing.Queued.{Queued}
 use Rattle.ttrpc_proto.specs.Framing.Header.{digits_of}
 use Rattle.ttrpc_proto.specs.Framing.Queue.{Queue, free, with_frame, with_payload}
-use Rattle.ttrpc_secure.specs.declared.sending.Parts.{Parts}
+use Rattle.ttrpc_secure.specs.declared.sending.DataParts.{DataParts}
 use Rattle.ttrpc_secure.specs.declared.transform.OutboundTransform.{Ghosts as OutboundTransform}
 
 -- Returns the data in the three parts, one after the other.
-abbrev pub joined : Parts → List ℕ
+abbrev pub joined : DataParts → List ℕ
 joined parts = parts.before.now ++ (parts.payload.now ++ parts.after.now)
 
 -- Returns the bytes of a header that a payload is bound to: the stream id, the type and the flags.

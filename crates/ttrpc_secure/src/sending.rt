@@ -61,18 +61,18 @@ fn check_limit<O: OutboundTransform>(half: &O, length: usize) -> Result<(), Send
 
 /// Data in three parts, one after the other.
 #[derive(Debug, Clone, Copy)]
-pub struct Parts<'a> {
+pub struct DataParts<'a> {
     pub before: &'a [u8],
     pub payload: &'a [u8],
     pub after: &'a [u8],
 }
 
-impl<'a> Parts<'a> {
+impl<'a> DataParts<'a> {
     /// Returns data in one part.
-    pub fn whole(payload: &'a [u8]) -> Parts<'a>
+    pub fn whole(payload: &'a [u8]) -> DataParts<'a>
         ensures { joined result ≡ payload.now }
     {
-        Parts {
+        DataParts {
             before: &[],
             payload,
             after: &[],
@@ -110,7 +110,7 @@ pub fn send<O: OutboundTransform>(
     half: &mut O,
     outgoing: &mut Outgoing,
     frame: Queued,
-    parts: Parts<'_>,
+    parts: DataParts<'_>,
 ) -> Result<(), SendError>
     // At an `Ok` the half sealed the data, and the frame with them is queued.
     ensures ok { OnOk result (Sends O.OutboundTransform half.old outgoing.old frame
@@ -141,7 +141,7 @@ pub fn send<O: OutboundTransform>(
 fn seal_parts<O: OutboundTransform>(
     alloc: Global,
     half: &mut O,
-    parts: &Parts<'_>,
+    parts: &DataParts<'_>,
     aad: &[u8],
 ) -> Result<Vec<u8>, TransformError>
     ensures ok { IfOk result

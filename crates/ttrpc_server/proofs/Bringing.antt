@@ -6,7 +6,7 @@ use Rattle.std.proofs.Common.{OnErr, OnOk, Result, Ok, Err}
 use Rattle.std.proofs.lemmas.Bool.{ne_eqb}
 use Rattle.std.specs.BTreeSet.{insert_key}
 use Rattle.ttrpc_proto.specs.declared.framing.header.TheConstants.{FLAG_REMOTE_CLOSED}
-use Rattle.ttrpc_connection.specs.declared.thing.Thing.{Thing}
+use Rattle.ttrpc_connection.specs.declared.thing.MailboxEntry.{MailboxEntry}
 use Rattle.ttrpc_connection.specs.Mail.{with_thing}
 use Rattle.ttrpc_connection.specs.Things.{data_thing, has_flag}
 use Rattle.ttrpc_server.specs.Types.{Mail}
@@ -62,7 +62,7 @@ kept_put (Ok x) r2 index room id change old new ok err kept fits =
 kept_put (Err x) r2 index room id change old new ok err kept fits = rw err (kept, fits)
 
 -- what came is put in, by the job that is found under its stream's id
-pub put_in_is : (old now : Server) (id : ℕ) (header : MessageHeader) (payload : List ℕ) (x : Thing) (ends : Bool) → Rising 0 old.jobs.list old.jobs.last → length (jobs_at old.jobs.list header.stream_id) ≤ 1
+pub put_in_is : (old now : Server) (id : ℕ) (header : MessageHeader) (payload : List ℕ) (x : MailboxEntry) (ends : Bool) → Rising 0 old.jobs.list old.jobs.last → length (jobs_at old.jobs.list header.stream_id) ≤ 1
     → first_id (jobs_at old.jobs.list header.stream_id) ≡ Some id → x ≡ data_thing header.stream_id header.flags payload → ends ≡ has_flag FLAG_REMOTE_CLOSED header.flags
     → now ≡ record old { jobs = record old.jobs { list = on_mail id (λ m. with_thing m x ends) old.jobs.list }; heard = insert_key nat_cmp old.heard id } → now ≡ put_in old header payload
 put_in_is old now id header payload x ends rising single first is closes same =

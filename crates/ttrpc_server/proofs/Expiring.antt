@@ -4,7 +4,7 @@ use Rattle.std.specs.Prelude.{drop, slice_get}
 use Rattle.std.proofs.lemmas.List.{drop_all, drop_more}
 use Rattle.std.proofs.lemmas.Option.{get_or_from_slice_get, slice_get_within}
 use Rattle.ttrpc_connection.proofs.Words.{append-nil}
-use Rattle.ttrpc_server.specs.declared.expiry.Stop.{Stop}
+use Rattle.ttrpc_server.specs.declared.expiry.StopReason.{StopReason}
 use Rattle.ttrpc_server.specs.Inside.{ExpiresAt, IsStop, StopsExpiring}
 use Rattle.ttrpc_server.specs.Kept.{Expiring, Indexed}
 use Rattle.ttrpc_server.proofs.Due.{ids_of}
@@ -106,7 +106,7 @@ module _ {O : Type 0} (out : OutboundTransform O) where
   -- if no more of them expire, the next one is left
   pub stops : (old : Server) (from : Outbox O) (now place : ℕ) (mid : Server) (index : Indexed) (expiring : Expiring) (to : Outbox O) → SoFar old from now place mid index expiring to
       → (id : ℕ) → FirstDue now id (drop (place + 1) expiring.due) mid.jobs.list → (left : JobList) (told : List ℕ) (next : Outbox O) → left ≡ mid.jobs → told ≡ mid.expired → next ≡ to
-      → (stop : Stop) → IsStop out to stop → StopsExpiring out old from now stop (record mid { jobs = left; expired = told }) next
+      → (stop : StopReason) → IsStop out to stop → StopsExpiring out old from now stop (record mid { jobs = left; expired = told }) next
   stops old from now place mid index expiring to p id x left told next jobs expired outbox stop why = rw (jobs, expired, outbox) (record {
     expired = p.expired;
     first = x.job;

@@ -8,7 +8,7 @@ use Rattle.ttrpc_connection.proofs.Words.{InboundTransform, all_at, all_changed,
 use Rattle.ttrpc_server.specs.declared.server.ServerCore.{ServerCore}
 use Rattle.ttrpc_server.specs.Calls.{Performs, WaitsNot, core, given_by, ids_given}
 use Rattle.ttrpc_server.specs.Kept.{AreSingle}
-use Rattle.ttrpc_server.specs.Table.{answer_row, case_answer, case_of, case_row, inlet_of, makes_job, MakeStream, PutIn}
+use Rattle.ttrpc_server.specs.Table.{answer_row, case_answer, case_of, case_row, id_state_of, makes_job, MakeStream, PutIn}
 use Rattle.ttrpc_server.specs.State.{Services, brought_by, changed_at, changed_under}
 use Rattle.ttrpc_server.proofs.Mapped.{at_stays, rising_mapped, single_mapped, under_stays, waits_not_mapped}
 use Rattle.ttrpc_server.specs.Protocol.{case_in, seen_by}
@@ -65,9 +65,9 @@ made_by_asking r services h (NotAbove newest) is = absurd (answers_make_none (ca
 
 free_where_made : (s : Server) (a : Arrived) → s.rules ≡ Async → makes_job (row_of s a) ≡ true → jobs_at s.jobs.list a.header.stream_id ≡ []
 free_where_made s a async is =
-    let inlet = inlet_of (jobs_at s.jobs.list a.header.stream_id) in
+    let id_state = id_state_of (jobs_at s.jobs.list a.header.stream_id) in
     let asks : (plain : List ℕ) × (case_in s a ≡ Asks plain) = made_by_asking s.rules s.services a.header (case_in s a) is in
-    none_of_absent (jobs_at s.jobs.list a.header.stream_id) (asks_where_absent a.header a.opening s.jobs.newest inlet asks.0 (subst (λ r. case_of r a.header a.opening s.jobs.newest inlet ≡ Asks asks.0) async asks.1))
+    none_of_absent (jobs_at s.jobs.list a.header.stream_id) (asks_where_absent a.header a.opening s.jobs.newest id_state asks.0 (subst (λ r. case_of r a.header a.opening s.jobs.newest id_state ≡ Asks asks.0) async asks.1))
 
 abbrev pub HasSingle : Server → Type 0
 HasSingle s = (s.rules ≡ Async) × AreSingle s.jobs.list

@@ -8,12 +8,12 @@ use Rattle.ttrpc_connection.proofs.Words.{if◌then◌else◌, cases_eq, eqb-tru
 use Rattle.ttrpc_connection.proofs.Lists.{all_at}
 use Rattle.ttrpc_server.proofs.Keyed.{at_most, before_it}
 use Rattle.ttrpc_server.proofs.Streams.{stream_id_of}
-use Rattle.ttrpc_connection.specs.declared.arrived.Opening.{Opening}
+use Rattle.ttrpc_connection.specs.declared.arrived.InboundResult.{InboundResult}
 use Rattle.ttrpc_server.specs.Kept.{AreUnary, no_index}
 use Rattle.std.specs.Option.{option_map, unwrap_or}
 use Rattle.ttrpc_server.specs.State.{IsNoUnary, Services, is_stream, job_at}
-use Rattle.ttrpc_server.specs.Table.{answer_row, asked_answer, asked_row, case_answer, case_of, case_row, inlet_by, inlet_in, inlet_of}
-use Rattle.ttrpc_server.specs.Types.{MessageHeader, TooLong, Refused, Opened, Inlet, Absent, Busy, Full, Taking, Case, Skipped, EvenId, Inactive, InUse, Asks, PutsIn, Asked, Call, Chat, Body, Stream, Unary, Receiver, Open, Closed, Broken, Dropped}
+use Rattle.ttrpc_server.specs.Table.{answer_row, request_kind_answer, request_kind_row, case_answer, case_of, case_row, id_state_by, id_state_in, id_state_of}
+use Rattle.ttrpc_server.specs.Types.{MessageHeader, TooLong, Refused, Opened, StreamIdState, Absent, Busy, Full, Taking, Case, Skipped, EvenId, Inactive, InUse, Asks, PutsIn, RequestKind, Call, Chat, Body, Stream, Unary, Receiver, Open, Closed, Broken, Dropped}
 
 -- ---- one change of what finds them
 
@@ -259,9 +259,9 @@ one_fewer list id job at =
 
 -- ---- what an id has
 
-pub inlet_absent : (js : List ActiveJob) → first_id js ≡ None → Absent ≡ inlet_of js
-inlet_absent [] none = refl
-inlet_absent (j ∷ js) none = cc
+pub id_state_absent : (js : List ActiveJob) → first_id js ≡ None → Absent ≡ id_state_of js
+id_state_absent [] none = refl
+id_state_absent (j ∷ js) none = cc
 
 -- the first job of a stream's id is found under its own
 pub first_above : (low high k : ℕ) (js : List ActiveJob) (j : ActiveJob) (rest : List ActiveJob) → Rising low js high → jobs_at js k ≡ j ∷ rest → low < j.id
@@ -286,30 +286,30 @@ first_found low high k (x ∷ xs) j rest rising is = by (nat_eq x.header.stream_
         let other : nat_eq x.id j.id ≡ false = ne_eqb x.id j.id (λ same. omega (arith, same, less)) in
         rw other (more is)
 
-pub inlet_found : (low high k id : ℕ) (js : List ActiveJob) → Rising low js high → first_id (jobs_at js k) ≡ Some id → unwrap_or (option_map (λ j. inlet_in j.body) (job_at js id)) Absent ≡ inlet_of (jobs_at js k)
-inlet_found low high k id js rising first = by (jobs_at js k) refl first
+pub id_state_found : (low high k id : ℕ) (js : List ActiveJob) → Rising low js high → first_id (jobs_at js k) ≡ Some id → unwrap_or (option_map (λ j. id_state_in j.body) (job_at js id)) Absent ≡ id_state_of (jobs_at js k)
+id_state_found low high k id js rising first = by (jobs_at js k) refl first
   where
-    by : (own : List ActiveJob) → jobs_at js k ≡ own → first_id own ≡ Some id → unwrap_or (option_map (λ j. inlet_in j.body) (job_at js id)) Absent ≡ inlet_of own
+    by : (own : List ActiveJob) → jobs_at js k ≡ own → first_id own ≡ Some id → unwrap_or (option_map (λ j. id_state_in j.body) (job_at js id)) Absent ≡ id_state_of own
     by [] is first = cc
     by (j ∷ rest) is first =
         let same : j.id ≡ id = cc in
         let found : job_at js id ≡ Some j = subst (λ i. job_at js i ≡ Some j) same (first_found low high k js j rest rising is) in
         rw found refl
 
-inlet_of_body : (b : Body) → inlet_in b ≡ Absent → ⊥
-inlet_of_body (Unary deadline) is = cc
-inlet_of_body (Stream mail) is = by mail.ended mail.receiver is
+id_state_of_body : (b : Body) → id_state_in b ≡ Absent → ⊥
+id_state_of_body (Unary deadline) is = cc
+id_state_of_body (Stream mail) is = by mail.ended mail.receiver is
   where
-    by : (ended : Bool) (receiver : Receiver) → inlet_by ended receiver ≡ Absent → ⊥
+    by : (ended : Bool) (receiver : Receiver) → id_state_by ended receiver ≡ Absent → ⊥
     by true receiver is = cc
     by false Open is = cc
     by false Closed is = cc
     by false Broken is = cc
     by false Dropped is = cc
 
-pub none_of_absent : (js : List ActiveJob) → inlet_of js ≡ Absent → js ≡ []
+pub none_of_absent : (js : List ActiveJob) → id_state_of js ≡ Absent → js ≡ []
 none_of_absent [] absent = refl
-none_of_absent (j ∷ js) absent = absurd (inlet_of_body j.body absent)
+none_of_absent (j ∷ js) absent = absurd (id_state_of_body j.body absent)
 
 -- ---- which case a frame is
 
@@ -321,7 +321,7 @@ never_asks false false false true items plain other is = other is
 never_asks false false false false items plain other is = cc
 
 -- under async rules a request is read only where its id has no job
-pub asks_where_absent : (h : MessageHeader) (opening : Opening) (newest : Option ℕ) (inlet : Inlet) (plain : List ℕ) → case_of Async h opening newest inlet ≡ Asks plain → inlet ≡ Absent
+pub asks_where_absent : (h : MessageHeader) (opening : InboundResult) (newest : Option ℕ) (id_state : StreamIdState) (plain : List ℕ) → case_of Async h opening newest id_state ≡ Asks plain → id_state ≡ Absent
 asks_where_absent h opening newest Absent plain is = refl
 asks_where_absent h TooLong newest Busy plain is = cc
 asks_where_absent h TooLong newest Taking plain is = cc
@@ -338,10 +338,10 @@ case_is_answered r services h (Asks plain) other items = absurd (other plain ref
 case_is_answered r services h (PutsIn plain) other items = absurd (items plain refl)
 case_is_answered r services h case other items = refl
 
-pub asked_is_answered : (request : Request) (asked : Asked) → (asked ≡ Call → ⊥) → (asked ≡ Chat → ⊥) → asked_row request asked ≡ answer_row (asked_answer request asked)
-asked_is_answered request Call other stream = absurd (other refl)
-asked_is_answered request Chat other stream = absurd (stream refl)
-asked_is_answered request asked other stream = refl
+pub request_kind_is_answered : (request : Request) (asked : RequestKind) → (asked ≡ Call → ⊥) → (asked ≡ Chat → ⊥) → request_kind_row request asked ≡ answer_row (request_kind_answer request asked)
+request_kind_is_answered request Call other stream = absurd (other refl)
+request_kind_is_answered request Chat other stream = absurd (stream refl)
+request_kind_is_answered request asked other stream = refl
 
 -- ---- one that was taken
 

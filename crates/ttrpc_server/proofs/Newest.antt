@@ -2,10 +2,10 @@
 use Rattle.ttrpc_server.proofs.Words.{◌≡◌, ◌≢◌, ◌<◌, ℕ, nat_eq, length, List, Option, None, Some, Bool, true, false, nat_lt, refl, sym, subst, inl, inr, arith, MessageHeader, OutboundTransform, Rules, Async, Sync, Server, row_of}
 use Rattle.std.specs.Prelude.{if◌then◌else◌}
 use Rattle.std.proofs.lemmas.Bool.{lt-ltb, ltb-true}
-use Rattle.ttrpc_connection.specs.declared.arrived.Opening.{Opening}
+use Rattle.ttrpc_connection.specs.declared.arrived.InboundResult.{InboundResult}
 use Rattle.ttrpc_server.specs.Protocol.{case_in, seen_by}
-use Rattle.ttrpc_server.specs.Table.{case_of, data_case, inlet_case, IsAbove, IsNoOlder, newer_case, newest_after}
-use Rattle.ttrpc_server.specs.Types.{Absent, Asks, Busy, Case, EvenId, Full, Inactive, Inlet, MESSAGE_TYPE_REQUEST, NotAbove, Opened, Oversize, Refused, Skipped, Taking, TooLong}
+use Rattle.ttrpc_server.specs.Table.{case_of, data_case, id_state_case, IsAbove, IsNoOlder, newer_case, newest_after}
+use Rattle.ttrpc_server.specs.Types.{Absent, Asks, Busy, Case, EvenId, Full, Inactive, StreamIdState, MESSAGE_TYPE_REQUEST, NotAbove, Opened, Oversize, Refused, Skipped, Taking, TooLong}
 use Rattle.ttrpc_server.proofs.Kept.{asks_where_absent}
 use Rattle.ttrpc_server.proofs.RowLeaves.{row_leaves}
 use Rattle.ttrpc_server.proofs.Running.{Lasts}
@@ -25,21 +25,21 @@ newer_above k (Some newest) bytes plain is = by (nat_lt newest k) refl is
     by true e same = ltb-true newest k e
     by false e same = cc
 
-absent_above : (h : MessageHeader) (opening : Opening) (newest : Option ℕ) (plain : List ℕ) → case_of Async h opening newest Absent ≡ Asks plain → IsAbove h.stream_id newest
+absent_above : (h : MessageHeader) (opening : InboundResult) (newest : Option ℕ) (plain : List ℕ) → case_of Async h opening newest Absent ≡ Asks plain → IsAbove h.stream_id newest
 absent_above h TooLong newest plain is = cc
 absent_above h (Refused why) newest plain is = cc
 absent_above h (Opened bytes) newest plain is = newer_above h.stream_id newest bytes plain (asks_then _ _ _ _ (newer_case h.stream_id newest bytes) plain is)
 
 -- a request that is read is above the newest one
-pub asks_above : (h : MessageHeader) (opening : Opening) (newest : Option ℕ) (inlet : Inlet) (plain : List ℕ) → case_of Async h opening newest inlet ≡ Asks plain → IsAbove h.stream_id newest
-asks_above h opening newest inlet plain is =
-    absent_above h opening newest plain (subst (λ (i : Inlet). case_of Async h opening newest i ≡ Asks plain) (asks_where_absent h opening newest inlet plain is) is)
+pub asks_above : (h : MessageHeader) (opening : InboundResult) (newest : Option ℕ) (id_state : StreamIdState) (plain : List ℕ) → case_of Async h opening newest id_state ≡ Asks plain → IsAbove h.stream_id newest
+asks_above h opening newest id_state plain is =
+    absent_above h opening newest plain (subst (λ (i : StreamIdState). case_of Async h opening newest i ≡ Asks plain) (asks_where_absent h opening newest id_state plain is) is)
 
 -- after any frame the newest request is the one before, or the frame's own, which is above it
-pub newest_moves : (r : Rules) (h : MessageHeader) (opening : Opening) (newest : Option ℕ) (inlet : Inlet) (case : Case) → case_of r h opening newest inlet ≡ case → IsNoOlder newest (newest_after r h.stream_id case newest)
-newest_moves Sync h opening newest inlet case is = inl refl
-newest_moves Async h opening newest inlet (Asks plain) is = inr (h.stream_id, refl, asks_above h opening newest inlet plain is)
-newest_moves Async h opening newest inlet case is = inl refl
+pub newest_moves : (r : Rules) (h : MessageHeader) (opening : InboundResult) (newest : Option ℕ) (id_state : StreamIdState) (case : Case) → case_of r h opening newest id_state ≡ case → IsNoOlder newest (newest_after r h.stream_id case newest)
+newest_moves Sync h opening newest id_state case is = inl refl
+newest_moves Async h opening newest id_state (Asks plain) is = inr (h.stream_id, refl, asks_above h opening newest id_state plain is)
+newest_moves Async h opening newest id_state case is = inl refl
 
 above_older : (k : ℕ) (old new : Option ℕ) → IsNoOlder old new → IsAbove k new → IsAbove k old
 above_older k old new (inl same) above = subst (IsAbove k) same above
@@ -78,18 +78,18 @@ none_then false false true d asked items m never other is = never refl is
 none_then false false false true asked items m never other is = other is
 none_then false false false false asked items m never other is = cc
 
-data_never : (plain : List ℕ) (inlet : Inlet) (m : ℕ) → data_case plain inlet ≢ NotAbove m
+data_never : (plain : List ℕ) (id_state : StreamIdState) (m : ℕ) → data_case plain id_state ≢ NotAbove m
 data_never plain Absent m is = cc
 data_never plain Busy m is = cc
 data_never plain Taking m is = cc
 data_never plain Full m is = cc
 
-asked_never : (k : ℕ) (newest : Option ℕ) (plain : List ℕ) (inlet : Inlet) (m : ℕ) → IsAbove k newest → inlet_case k newest plain inlet ≢ NotAbove m
-asked_never k None plain Absent m above is = cc
-asked_never k (Some newest) plain Absent m above is = let bad : Asks plain ≡ NotAbove m = rw (lt-ltb newest k above) at is in cc
-asked_never k newest plain Busy m above is = cc
-asked_never k newest plain Taking m above is = cc
-asked_never k newest plain Full m above is = cc
+request_kind_never : (k : ℕ) (newest : Option ℕ) (plain : List ℕ) (id_state : StreamIdState) (m : ℕ) → IsAbove k newest → id_state_case k newest plain id_state ≢ NotAbove m
+request_kind_never k None plain Absent m above is = cc
+request_kind_never k (Some newest) plain Absent m above is = let bad : Asks plain ≡ NotAbove m = rw (lt-ltb newest k above) at is in cc
+request_kind_never k newest plain Busy m above is = cc
+request_kind_never k newest plain Taking m above is = cc
+request_kind_never k newest plain Full m above is = cc
 
 sync_never : (a b : Bool) (n m : ℕ) (plain : List ℕ) → (if a then Oversize n else (if b then Asks plain else Skipped)) ≢ NotAbove m
 sync_never true b n m plain is = cc
@@ -97,7 +97,7 @@ sync_never false true n m plain is = cc
 sync_never false false n m plain is = cc
 
 -- no frame is refused for its id whose id is above that of the newest request, if it is a request
-pub never_refused : (r : Rules) (h : MessageHeader) (plain : List ℕ) (newest : Option ℕ) (inlet : Inlet) (m : ℕ) → (nat_eq h.type_ MESSAGE_TYPE_REQUEST ≡ true → IsAbove h.stream_id newest) → case_of r h (Opened plain) newest inlet ≢ NotAbove m
-never_refused Sync h plain newest inlet m above = sync_never _ _ (length plain) m plain
-never_refused Async h plain newest inlet m above =
-    none_then _ _ _ _ (inlet_case h.stream_id newest plain inlet) (data_case plain inlet) m (λ asks. asked_never h.stream_id newest plain inlet m (above asks)) (data_never plain inlet m)
+pub never_refused : (r : Rules) (h : MessageHeader) (plain : List ℕ) (newest : Option ℕ) (id_state : StreamIdState) (m : ℕ) → (nat_eq h.type_ MESSAGE_TYPE_REQUEST ≡ true → IsAbove h.stream_id newest) → case_of r h (Opened plain) newest id_state ≢ NotAbove m
+never_refused Sync h plain newest id_state m above = sync_never _ _ (length plain) m plain
+never_refused Async h plain newest id_state m above =
+    none_then _ _ _ _ (id_state_case h.stream_id newest plain id_state) (data_case plain id_state) m (λ asks. request_kind_never h.stream_id newest plain id_state m (above asks)) (data_never plain id_state m)

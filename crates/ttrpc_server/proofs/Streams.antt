@@ -1,11 +1,11 @@
 -- What a frame, a job that is handed out, an answer and a job that expires do to each stream id by itself.
 use Rattle.ttrpc_server.proofs.Words.{cond_both, ◌≡◌, ℕ, nat_eq, ◌≢◌, inl, inr, refl, arith, List, [], ◌∷◌, ◌++◌, None, ExpiresOne, IsJob, Outbox, timeout_response, sym, ap, ◌∙◌, ActiveJob, Job, MessageHeader, Response, OutboundTransform, Sent, EndsOne, HandsOne, NoneWaits, jobs_at, SendsOwnAnswer, Server, Arrived, Async, Row, Rules, Sync, row_of, sync_row, Opened, Refused, SendResponse, SendCode, Does, between_own, between_other, under_both}
-use Rattle.ttrpc_connection.specs.declared.arrived.Opening.{Opening}
+use Rattle.ttrpc_connection.specs.declared.arrived.InboundResult.{InboundResult}
 use Rattle.std.specs.Prelude.{Bool, true, false, nat_lt, length, if◌then◌else◌, Option, Some}
 use Rattle.ttrpc_wire.specs.Fold.{read_from}
 use Rattle.ttrpc_proto.specs.Messages.{empty_request, request_step}
-use Rattle.ttrpc_server.specs.Types.{TooLong, Case, Inlet, Absent, Asks, Call, NoPath, Oversize, Skipped, MESSAGE_LENGTH_MAX, MESSAGE_TYPE_REQUEST, Request}
-use Rattle.ttrpc_server.specs.Table.{asked_row, case_of, case_row, inlet_of, newest_after, request_row, MakeStream, PutIn}
+use Rattle.ttrpc_server.specs.Types.{TooLong, Case, StreamIdState, Absent, Asks, Call, NoPath, Oversize, Skipped, MESSAGE_LENGTH_MAX, MESSAGE_TYPE_REQUEST, Request}
+use Rattle.ttrpc_server.specs.Table.{request_kind_row, case_of, case_row, id_state_of, newest_after, request_row, MakeStream, PutIn}
 use Rattle.ttrpc_server.specs.Streams.{IsAnswered}
 use Rattle.ttrpc_server.specs.State.{Services, has_method}
 
@@ -98,7 +98,7 @@ module _ {O : Type 0} (out : OutboundTransform O) (old : Server) (from : Outbox 
 -- ---- the rules
 
 -- sync rules ask neither for the newest request nor for what an id has
-pub same_case : (r : Rules) (h : MessageHeader) (opening : Opening) (m n : Option ℕ) (x y : Inlet) → (r ≡ Async → (m ≡ n) × (x ≡ y)) → case_of r h opening m x ≡ case_of r h opening n y
+pub same_case : (r : Rules) (h : MessageHeader) (opening : InboundResult) (m n : Option ℕ) (x y : StreamIdState) → (r ≡ Async → (m ≡ n) × (x ≡ y)) → case_of r h opening m x ≡ case_of r h opening n y
 same_case Sync h TooLong m n x y same = refl
 same_case Sync h (Refused why) m n x y same = refl
 same_case Sync h (Opened plain) m n x y same = refl
@@ -111,7 +111,7 @@ seen_else Sync k case newest other = refl
 seen_else Async k case newest other = refl
 
 pub row_of_sync : (s : Server) (a : Arrived) → s.rules ≡ Sync → row_of s a ≡ sync_row s.services a.header a.opening
-row_of_sync s a sync = rw sync (ap (case_row Sync s.services a.header) (same_case Sync a.header a.opening s.jobs.newest None (inlet_of (jobs_at s.jobs.list a.header.stream_id)) Absent (λ bad. cc)))
+row_of_sync s a sync = rw sync (ap (case_row Sync s.services a.header) (same_case Sync a.header a.opening s.jobs.newest None (id_state_of (jobs_at s.jobs.list a.header.stream_id)) Absent (λ bad. cc)))
 
 -- ---- sync rules have no streams
 
@@ -121,7 +121,7 @@ is_of_streams (MakeStream request) = true
 is_of_streams (PutIn payload) = true
 is_of_streams row = false
 
-none_asked : (r : Request) (b : Bool) → is_of_streams (asked_row r (if b then Call else NoPath)) ≡ false
+none_asked : (r : Request) (b : Bool) → is_of_streams (request_kind_row r (if b then Call else NoPath)) ≡ false
 none_asked r true = refl
 none_asked r false = refl
 
@@ -134,7 +134,7 @@ none_opened services h plain true asks = refl
 none_opened services h plain false true = none_read services (read_from request_step empty_request plain)
 none_opened services h plain false false = refl
 
-pub no_streams : (services : Services) (h : MessageHeader) (opening : Opening) → is_of_streams (sync_row services h opening) ≡ false
+pub no_streams : (services : Services) (h : MessageHeader) (opening : InboundResult) → is_of_streams (sync_row services h opening) ≡ false
 no_streams services h TooLong = refl
 no_streams services h (Refused why) = refl
 no_streams services h (Opened plain) = none_opened services h plain (nat_lt MESSAGE_LENGTH_MAX (length plain)) (nat_eq h.type_ MESSAGE_TYPE_REQUEST)

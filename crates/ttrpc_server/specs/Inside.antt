@@ -8,8 +8,8 @@ use Rattle.ttrpc_secure.specs.Context.Texts.{unsafe_payload_text, unsealed_text}
 use Rattle.ttrpc_server.specs.declared.replies.Unsent.{Unsent}
 use Rattle.ttrpc_server.specs.declared.replies.Unsent.TheVariants.{AboveLimit, NoRoom, Unsealed, NoMemory}
 use Rattle.ttrpc_server.specs.Protocol.{ExpireAll, IsUsedUp, IsAboveLimit, IsUnsealed, LacksRoom, SendsOwnAnswer, advice, due_jobs, fitted, response_room, response_size, timeout_response, timeout_room, told_with}
-use Rattle.ttrpc_server.specs.declared.expiry.Stop.{Stop}
-use Rattle.ttrpc_server.specs.declared.expiry.Stop.TheVariants.{NoRoom as Full, NoMemory as Starved}
+use Rattle.ttrpc_server.specs.declared.expiry.StopReason.{StopReason}
+use Rattle.ttrpc_server.specs.declared.expiry.StopReason.TheVariants.{NoRoom as Full, NoMemory as Starved}
 use Rattle.ttrpc_proto.specs.Framing.Queue.{free}
 use Rattle.ttrpc_server.specs.Kept.{Expiring, Indexed, Loses}
 use Rattle.ttrpc_server.specs.State.{IsJob, JobList, Rising, Server, deadline_in, waits}
@@ -93,12 +93,12 @@ pub record ExpiresAt {O : Type 0} {id : ℕ} (out : OutboundTransform O) (jobs :
   pub answers : SendsSome out from (SendsOwnAnswer Async out from.half job.header.stream_id timeout_response) to
 
 -- Holds if no more jobs expire for this reason.
-abbrev pub IsStop : {O : Type 0} → OutboundTransform O → Outbox O → Stop → Type 0
+abbrev pub IsStop : {O : Type 0} → OutboundTransform O → Outbox O → StopReason → Type 0
 IsStop out outbox Full = free outbox.queue < timeout_room out outbox.half
 IsStop out outbox Starved = timeout_room out outbox.half ≤ free outbox.queue
 
 -- Holds if some of the due jobs have expired, and others are left, for this reason.
-pub record StopsExpiring {O : Type 0} (out : OutboundTransform O) (old : Server) (from : Outbox O) (now : ℕ) (stop : Stop) (new : Server) (to : Outbox O) : Type 0 where
+pub record StopsExpiring {O : Type 0} (out : OutboundTransform O) (old : Server) (from : Outbox O) (now : ℕ) (stop : StopReason) (new : Server) (to : Outbox O) : Type 0 where
   pub expired : List ActiveJob
   pub first : ActiveJob
   pub others : List ActiveJob

@@ -5,8 +5,8 @@ use Rattle.std.specs.Map.{lookup}
 use Rattle.std.specs.Option.{option_and_then}
 use Rattle.std.specs.Str.{bytes_eq}
 use Rattle.ttrpc_server.specs.State.{Names, Services}
-use Rattle.ttrpc_server.specs.declared.methods.Named.{Named}
-use Rattle.ttrpc_server.specs.declared.methods.Named.TheVariants.{Methods, Streams}
+use Rattle.ttrpc_server.specs.declared.methods.NameKind.{NameKind}
+use Rattle.ttrpc_server.specs.declared.methods.NameKind.TheVariants.{Methods, Streams}
 use Rattle.ttrpc_proto.specs.declared.error.Error.{Error}
 use Rattle.ttrpc_proto.specs.declared.error.Error.TheVariants.{Others, NoMemory}
 
@@ -34,12 +34,12 @@ SomeFront {X} xs P = (front : List X) × (rest : List X) × (xs ≡ front ++ res
 -- ---- the names that a core knows
 
 -- Returns the names of methods, or those of streams.
-abbrev pub names_in : Named → Services → Names
+abbrev pub names_in : NameKind → Services → Names
 names_in Methods services = services.methods
 names_in Streams services = services.streams
 
 -- Returns the names of the other kind.
-abbrev pub others_in : Named → Services → Names
+abbrev pub others_in : NameKind → Services → Names
 others_in Methods services = services.streams
 others_in Streams services = services.methods
 

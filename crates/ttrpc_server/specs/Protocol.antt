@@ -22,13 +22,13 @@ use Rattle.ttrpc_connection.specs.Feeds.{IsFailed, Ways, new_connection}
 use Rattle.ttrpc_connection.specs.Frames.{Sent, SendsAll, safe_limit}
 use Rattle.ttrpc_server.specs.declared.server.ServerCore.{ServerCore}
 use Rattle.ttrpc_server.specs.State.{EndsOne, HandsOne, IsTaken, IsNoUnary, is_stream, Server, Services, jobs_at, new_server, put_in, stream_body, takes_on, unary_body, with_made, with_newest, without_payload, with_list, IsJob, deadline_in, waits}
-use Rattle.ttrpc_server.specs.Table.{Row, Ignore, MakeJob, MakeStream, PutIn, makes_job, SendCode, SendResponse, case_of, case_row, inlet_of, newest_after, status_response}
+use Rattle.ttrpc_server.specs.Table.{Row, Ignore, MakeJob, MakeStream, PutIn, makes_job, SendCode, SendResponse, case_of, case_row, id_state_of, newest_after, status_response}
 
 -- ---- the row of a frame
 
 -- Returns the case of a frame in the state of a core.
 abbrev pub case_in : Server → Arrived → Case
-case_in s a = case_of s.rules a.header a.opening s.jobs.newest (inlet_of (jobs_at s.jobs.list a.header.stream_id))
+case_in s a = case_of s.rules a.header a.opening s.jobs.newest (id_state_of (jobs_at s.jobs.list a.header.stream_id))
 
 -- Returns the row of a frame in the state of a core.
 abbrev pub row_of : Server → Arrived → Row

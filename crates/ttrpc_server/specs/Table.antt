@@ -5,34 +5,34 @@
 -- Source: PROTOCOL.md of ttrpc, "Message Frame", "Request" and "Response"; the Rust crate; this project's.
 use Rattle.std.specs.Prelude.{◌≡◌, ◌⊎◌, ◌<◌, ℕ, ◌%◌, List, ◌++◌, length, codes, Option, None, Some, Bool, true, false, nat_eq, nat_lt, if◌then◌else◌, [], ◌∷◌}
 use Rattle.std.specs.Fmt.{decimal}
-use Rattle.ttrpc_server.specs.Types.{Code, UNKNOWN, INVALID_ARGUMENT, UNIMPLEMENTED, MessageHeader, MESSAGE_LENGTH_MAX, MESSAGE_TYPE_DATA, MESSAGE_TYPE_REQUEST, Request, Response, TooLong, Opened, Refused, ActiveJob, Rules, Sync, Async, Inlet, Absent, Busy, Full, Taking, Receiver, Open, Closed, Broken, Dropped, Body, Stream, Unary, Case, Skipped, Oversize, Unopened, EvenId, Inactive, InUse, NotAbove, Asks, PutsIn, Asked, Call, Chat, NoPath, NoService, NoMethod}
+use Rattle.ttrpc_server.specs.Types.{Code, UNKNOWN, INVALID_ARGUMENT, UNIMPLEMENTED, MessageHeader, MESSAGE_LENGTH_MAX, MESSAGE_TYPE_DATA, MESSAGE_TYPE_REQUEST, Request, Response, TooLong, Opened, Refused, ActiveJob, Rules, Sync, Async, StreamIdState, Absent, Busy, Full, Taking, Receiver, Open, Closed, Broken, Dropped, Body, Stream, Unary, Case, Skipped, Oversize, Unopened, EvenId, Inactive, InUse, NotAbove, Asks, PutsIn, RequestKind, Call, Chat, NoPath, NoService, NoMethod}
 use Rattle.ttrpc_wire.specs.Fold.{read_from}
 use Rattle.ttrpc_proto.specs.ErrorText.{status_of}
 use Rattle.ttrpc_proto.specs.Messages.{empty_request, request_step}
 use Rattle.ttrpc_proto.specs.Framing.Header.Oversize.{oversize_text}
 use Rattle.ttrpc_secure.specs.Context.Texts.{unopened_text}
-use Rattle.ttrpc_connection.specs.declared.arrived.Opening.{Opening}
+use Rattle.ttrpc_connection.specs.declared.arrived.InboundResult.{InboundResult}
 use Rattle.ttrpc_server.specs.State.{Services, has_method, has_service, has_stream}
 
 -- ---- the case of a frame, from top to bottom
 
 -- Returns how a stream's job takes data, by whether its end came and by its receiver. Data after the end are ignored.
-abbrev pub inlet_by : Bool → Receiver → Inlet
-inlet_by true receiver = Full
-inlet_by false Open = Taking
-inlet_by false Closed = Busy
-inlet_by false Broken = Busy
-inlet_by false Dropped = Busy
+abbrev pub id_state_by : Bool → Receiver → StreamIdState
+id_state_by true receiver = Full
+id_state_by false Open = Taking
+id_state_by false Closed = Busy
+id_state_by false Broken = Busy
+id_state_by false Dropped = Busy
 
 -- Returns how a job takes a frame under its stream id.
-abbrev pub inlet_in : Body → Inlet
-inlet_in (Unary deadline) = Busy
-inlet_in (Stream mail) = inlet_by mail.ended mail.receiver
+abbrev pub id_state_in : Body → StreamIdState
+id_state_in (Unary deadline) = Busy
+id_state_in (Stream mail) = id_state_by mail.ended mail.receiver
 
 -- Returns how these jobs, those of a stream id, take a frame under it.
-abbrev pub inlet_of : List ActiveJob → Inlet
-inlet_of [] = Absent
-inlet_of (j ∷ js) = inlet_in j.body
+abbrev pub id_state_of : List ActiveJob → StreamIdState
+id_state_of [] = Absent
+id_state_of (j ∷ js) = id_state_in j.body
 
 -- Returns the case of a payload that was opened, under sync rules.
 abbrev pub sync_case : MessageHeader → List ℕ → Case
@@ -57,32 +57,32 @@ newer_case k None plain = Asks plain
 newer_case k (Some newest) plain = if nat_lt newest k then Asks plain else NotAbove newest
 
 -- Returns the case of a request under async rules, by the state of its id.
-abbrev pub inlet_case : ℕ → Option ℕ → List ℕ → Inlet → Case
-inlet_case k newest plain Absent = newer_case k newest plain
-inlet_case k newest plain Busy = InUse
-inlet_case k newest plain Taking = InUse
-inlet_case k newest plain Full = InUse
+abbrev pub id_state_case : ℕ → Option ℕ → List ℕ → StreamIdState → Case
+id_state_case k newest plain Absent = newer_case k newest plain
+id_state_case k newest plain Busy = InUse
+id_state_case k newest plain Taking = InUse
+id_state_case k newest plain Full = InUse
 
 -- Returns the case of data under async rules, by the state of their id.
-abbrev pub data_case : List ℕ → Inlet → Case
+abbrev pub data_case : List ℕ → StreamIdState → Case
 data_case plain Absent = Inactive
 data_case plain Busy = Inactive
 data_case plain Taking = PutsIn plain
 data_case plain Full = Skipped
 
 -- Returns the case of a payload that was opened, under async rules.
-abbrev pub async_case : MessageHeader → List ℕ → Option ℕ → Inlet → Case
-async_case h plain newest inlet =
+abbrev pub async_case : MessageHeader → List ℕ → Option ℕ → StreamIdState → Case
+async_case h plain newest id_state =
     if nat_lt MESSAGE_LENGTH_MAX (length plain) then Skipped else
     if nat_eq (h.stream_id % 2) 0 then EvenId else
-    if nat_eq h.type_ MESSAGE_TYPE_REQUEST then inlet_case h.stream_id newest plain inlet else
-    if nat_eq h.type_ MESSAGE_TYPE_DATA then data_case plain inlet else
+    if nat_eq h.type_ MESSAGE_TYPE_REQUEST then id_state_case h.stream_id newest plain id_state else
+    if nat_eq h.type_ MESSAGE_TYPE_DATA then data_case plain id_state else
     Skipped
 
 -- Returns the case of a payload that was opened.
-abbrev pub opened_case : Rules → MessageHeader → List ℕ → Option ℕ → Inlet → Case
-opened_case Sync h plain newest inlet = sync_case h plain
-opened_case Async h plain newest inlet = async_case h plain newest inlet
+abbrev pub opened_case : Rules → MessageHeader → List ℕ → Option ℕ → StreamIdState → Case
+opened_case Sync h plain newest id_state = sync_case h plain
+opened_case Async h plain newest id_state = async_case h plain newest id_state
 
 -- Returns the case of a payload that the inbound half refused.
 abbrev pub unopened_case : Rules → List ℕ → Case
@@ -90,10 +90,10 @@ unopened_case Sync why = Unopened why
 unopened_case Async why = Skipped
 
 -- Returns the case of a frame, by the result of the inbound half, the newest request and the state of the frame's id.
-abbrev pub case_of : Rules → MessageHeader → Opening → Option ℕ → Inlet → Case
-case_of rules h TooLong newest inlet = Oversize h.length
-case_of rules h (Refused why) newest inlet = unopened_case rules why
-case_of rules h (Opened plain) newest inlet = opened_case rules h plain newest inlet
+abbrev pub case_of : Rules → MessageHeader → InboundResult → Option ℕ → StreamIdState → Case
+case_of rules h TooLong newest id_state = Oversize h.length
+case_of rules h (Refused why) newest id_state = unopened_case rules why
+case_of rules h (Opened plain) newest id_state = opened_case rules h plain newest id_state
 
 -- Returns the newest request after a frame of this id and case: under async rules a request that is read, or else the one before.
 abbrev pub newest_after : Rules → ℕ → Case → Option ℕ → Option ℕ
@@ -103,7 +103,7 @@ newest_after rules k case newest = newest
 -- ---- the action of a request that was read
 
 -- Returns the action of a request for a method that isn't there. Sync rules have methods alone.
-abbrev pub other_of : Rules → Services → Request → Asked
+abbrev pub other_of : Rules → Services → Request → RequestKind
 other_of Sync services r = NoPath
 other_of Async services r =
     if has_stream services r.service r.method then Chat else
@@ -111,8 +111,8 @@ other_of Async services r =
     NoService
 
 -- Returns the action of a request that was read.
-abbrev pub asked_of : Rules → Services → Request → Asked
-asked_of rules services r = if has_method services r.service r.method then Call else other_of rules services r
+abbrev pub request_kind_of : Rules → Services → Request → RequestKind
+request_kind_of rules services r = if has_method services r.service r.method then Call else other_of rules services r
 
 -- ---- the answer: a code and a text, or nothing
 
@@ -169,12 +169,12 @@ case_answer h (Asks plain) = None
 case_answer h (PutsIn plain) = None
 
 -- Returns the answer to a request that was read, if there is one.
-abbrev pub asked_answer : Request → Asked → Option Response
-asked_answer r Call = None
-asked_answer r Chat = None
-asked_answer r NoPath = answer INVALID_ARGUMENT (path_text r.service r.method)
-asked_answer r NoService = answer INVALID_ARGUMENT (service_text r.service)
-asked_answer r NoMethod = answer UNIMPLEMENTED (method_text r.method)
+abbrev pub request_kind_answer : Request → RequestKind → Option Response
+request_kind_answer r Call = None
+request_kind_answer r Chat = None
+request_kind_answer r NoPath = answer INVALID_ARGUMENT (path_text r.service r.method)
+request_kind_answer r NoService = answer INVALID_ARGUMENT (service_text r.service)
+request_kind_answer r NoMethod = answer UNIMPLEMENTED (method_text r.method)
 
 -- ---- the row of a frame
 
@@ -208,15 +208,15 @@ answer_row None = Ignore
 answer_row (Some r) = SendResponse r
 
 -- Returns the row of a request that was read.
-abbrev pub asked_row : Request → Asked → Row
-asked_row r Call = MakeJob r
-asked_row r Chat = MakeStream r
-asked_row r asked = answer_row (asked_answer r asked)
+abbrev pub request_kind_row : Request → RequestKind → Row
+request_kind_row r Call = MakeJob r
+request_kind_row r Chat = MakeStream r
+request_kind_row r asked = answer_row (request_kind_answer r asked)
 
 -- Returns the row of a request, or of bytes that can't be read as one.
 abbrev pub request_row : Rules → Services → Option Request → Row
 request_row rules services None = SendCode INVALID_ARGUMENT
-request_row rules services (Some r) = asked_row r (asked_of rules services r)
+request_row rules services (Some r) = request_kind_row r (request_kind_of rules services r)
 
 -- Returns the row of each case.
 abbrev pub case_row : Rules → Services → MessageHeader → Case → Row
@@ -225,5 +225,5 @@ case_row rules services h (Asks plain) = request_row rules services (read_from r
 case_row rules services h case = answer_row (case_answer h case)
 
 -- Returns the row under sync rules, in which the state of the frame's id has no part.
-abbrev pub sync_row : Services → MessageHeader → Opening → Row
+abbrev pub sync_row : Services → MessageHeader → InboundResult → Row
 sync_row services h opening = case_row Sync services h (case_of Sync h opening None Absent)

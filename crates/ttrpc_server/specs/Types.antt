@@ -8,7 +8,7 @@ pub use Rattle.ttrpc_proto.specs.declared.messages.Response.{Response}
 pub use Rattle.ttrpc_proto.specs.declared.error.Error.TheVariants.{NoMemory, NoMemory as MemoryRefused, NoRoom, Others}
 pub use Rattle.ttrpc_connection.specs.Types.{Error, Incoming, MESSAGE_LENGTH_MAX, MESSAGE_TYPE_REQUEST, MessageHeader, OutboundTransform, Queued}
 pub use Rattle.ttrpc_connection.specs.declared.arrived.Arrived.{Arrived}
-pub use Rattle.ttrpc_connection.specs.declared.arrived.Opening.TheVariants.{Opened, Refused, TooLong}
+pub use Rattle.ttrpc_connection.specs.declared.arrived.InboundResult.TheVariants.{Opened, Refused, TooLong}
 pub use Rattle.ttrpc_connection.specs.declared.connection.Connection.{Connection}
 pub use Rattle.ttrpc_connection.specs.declared.failure.Failure.{Failure}
 pub use Rattle.ttrpc_connection.specs.declared.failure.Failure.TheVariants.{HandlerError, JobIdsUsedUp, NoMemory as NoMemoryLeft}
@@ -20,12 +20,12 @@ pub use Rattle.ttrpc_server.specs.declared.job.ActiveJob.{ActiveJob}
 pub use Rattle.ttrpc_server.specs.declared.job.Body.{Body}
 pub use Rattle.ttrpc_server.specs.declared.job.Body.TheVariants.{Stream, Unary}
 pub use Rattle.ttrpc_server.specs.declared.job.Job.{Job}
-pub use Rattle.ttrpc_server.specs.declared.rows.Asked.{Asked}
-pub use Rattle.ttrpc_server.specs.declared.rows.Asked.TheVariants.{Call, NoMethod, NoPath, NoService, Stream as Chat}
+pub use Rattle.ttrpc_server.specs.declared.rows.RequestKind.{RequestKind}
+pub use Rattle.ttrpc_server.specs.declared.rows.RequestKind.TheVariants.{Call, NoMethod, NoPath, NoService, Stream as Chat}
 pub use Rattle.ttrpc_server.specs.declared.rows.Case.{Case}
 pub use Rattle.ttrpc_server.specs.declared.rows.Case.TheVariants.{Asks, EvenId, Inactive, InUse, NotAbove, Oversize, PutsIn, Skipped, Unopened}
-pub use Rattle.ttrpc_server.specs.declared.rows.Inlet.{Inlet}
-pub use Rattle.ttrpc_server.specs.declared.rows.Inlet.TheVariants.{Absent, Busy, Full, Taking}
+pub use Rattle.ttrpc_server.specs.declared.rows.StreamIdState.{StreamIdState}
+pub use Rattle.ttrpc_server.specs.declared.rows.StreamIdState.TheVariants.{Absent, Busy, Full, Taking}
 pub use Rattle.ttrpc_server.specs.declared.rules.Rules.{Rules}
 pub use Rattle.ttrpc_server.specs.declared.rules.Rules.TheVariants.{Async, Sync}
 pub use Rattle.ttrpc_connection.specs.OneEnd.{Ends, failing, Takes, TakesOrDrains}

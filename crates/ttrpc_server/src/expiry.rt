@@ -131,7 +131,7 @@ impl Expiry {
 
 /// Why no more of the due jobs expire.
 #[derive(Clone, Copy, Debug, PartialEq, Eq)]
-pub(crate) enum Stop {
+pub(crate) enum StopReason {
     /// The queue hasn't as many free bytes as the answer may need.
     NoRoom,
     /// The allocator refused memory.
@@ -157,7 +157,7 @@ pub(crate) fn expire_job<O: OutboundTransform + Drop>(
     index: &mut Index,
     expiry: &mut Expiry,
     id: JobId,
-) -> Result<(), Stop>
+) -> Result<(), StopReason>
     requires job { (job : AJob) × IsJob jobs.old.list id job }
     requires room { 0 < expiry.old.room }
     ensures ok { (job : AJob) → (at : IsJob jobs.old.list id job)
@@ -171,7 +171,7 @@ pub(crate) fn expire_job<O: OutboundTransform + Drop>(
         unreachable!();
     };
     if !has_room(outbox) {
-        return Err(Stop::NoRoom);
+        return Err(StopReason::NoRoom);
     }
     answer_timeout(alloc, outbox, stream_id)?;
     expiry.tell(id, jobs.waits(id));
@@ -185,17 +185,17 @@ fn answer_timeout<O: OutboundTransform + Drop>(
     alloc: Global,
     outbox: &mut Outbox<O>,
     stream_id: u32,
-) -> Result<(), Stop>
+) -> Result<(), StopReason>
     requires { timeout_room O.OutboundTransform outbox.old.half ≤ free outbox.old.queue }
     ensures ok { OnOk result (SendsSome O.OutboundTransform outbox.old (SendsOwnAnswer Rules.Async
         O.OutboundTransform outbox.old.half stream_id timeout_response) outbox.new) }
-    ensures err { IfErr result (λ stop. (stop ≡ Stop.NoMemory) × (outbox.new ≡ outbox.old)) }
+    ensures err { IfErr result (λ stop. (stop ≡ StopReason.NoMemory) × (outbox.new ≡ outbox.old)) }
 {
     let Ok(response) = timeout_response(alloc) else {
-        return Err(Stop::NoMemory);
+        return Err(StopReason::NoMemory);
     };
     match send_own_answer(alloc, outbox, Rules::Async, stream_id, &response) {
         Ok(()) => Ok(()),
-        Err(_) => Err(Stop::NoMemory),
+        Err(_) => Err(StopReason::NoMemory),
     }
 }

@@ -1,6 +1,6 @@
 //! The table: the case of each frame, the action of a request that was read, and the answer to each.
 ghost use Rattle.std.specs.Prelude.{◌≡◌, IfOk};
-ghost use Rattle.ttrpc_server.specs.Table.{asked_answer, asked_of, async_case, case_answer, case_of, data_case, inlet_case, newer_case, opened_case, sync_case};
+ghost use Rattle.ttrpc_server.specs.Table.{request_kind_answer, request_kind_of, async_case, case_answer, case_of, data_case, id_state_case, newer_case, opened_case, sync_case};
 
 use crate::registry::Registry;
 use crate::responses::{
@@ -9,7 +9,7 @@ use crate::responses::{
 };
 use crate::rules::Rules;
 use std::alloc::{AllocError, Global};
-use ttrpc_connection::Opening;
+use ttrpc_connection::InboundResult;
 use ttrpc_proto::{
     MESSAGE_LENGTH_MAX, MESSAGE_TYPE_DATA, MESSAGE_TYPE_REQUEST, MessageHeader, Request, Response,
 };
@@ -17,7 +17,7 @@ use ttrpc_wire::{Blob, Text};
 
 /// The state of a stream id for a frame under it.
 #[derive(Clone, Copy, Debug, PartialEq, Eq)]
-pub enum Inlet {
+pub enum StreamIdState {
     /// The id has no active job.
     Absent,
     /// An active job that takes no data.
@@ -51,9 +51,9 @@ pub enum Case {
     PutsIn(Blob),
 }
 
-/// The action of a request that was read.
+/// The kind of a request that was read, which decides its action.
 #[derive(Clone, Copy, Debug, PartialEq, Eq)]
-pub enum Asked {
+pub enum RequestKind {
     /// A unary job is made of the request.
     Call,
     /// A stream's job is made of the request.
@@ -71,19 +71,19 @@ pub enum Asked {
 pub fn case_of(
     rules: Rules,
     header: &MessageHeader,
-    opening: Opening,
+    opening: InboundResult,
     newest: Option<u32>,
-    inlet: Inlet,
+    id_state: StreamIdState,
 ) -> Case
-    ensures { result ≡ case_of rules header.now opening newest inlet }
+    ensures { result ≡ case_of rules header.now opening newest id_state }
 {
     match opening {
-        Opening::TooLong => Case::Oversize(header.length as usize),
-        Opening::Refused(why) => match rules {
+        InboundResult::TooLong => Case::Oversize(header.length as usize),
+        InboundResult::Refused(why) => match rules {
             Rules::Sync => Case::Unopened(why),
             Rules::Async => Case::Skipped,
         },
-        Opening::Opened(plain) => opened_case(rules, header, plain, newest, inlet),
+        InboundResult::Opened(plain) => opened_case(rules, header, plain, newest, id_state),
     }
 }
 
@@ -93,13 +93,13 @@ fn opened_case(
     header: &MessageHeader,
     plain: Blob,
     newest: Option<u32>,
-    inlet: Inlet,
+    id_state: StreamIdState,
 ) -> Case
-    ensures { result ≡ opened_case rules header.now plain newest inlet }
+    ensures { result ≡ opened_case rules header.now plain newest id_state }
 {
     match rules {
         Rules::Sync => sync_case(header, plain),
-        Rules::Async => async_case(header, plain, newest, inlet),
+        Rules::Async => async_case(header, plain, newest, id_state),
     }
 }
 
@@ -115,8 +115,13 @@ fn sync_case(header: &MessageHeader, plain: Blob) -> Case
     Case::Skipped
 }
 
-fn async_case(header: &MessageHeader, plain: Blob, newest: Option<u32>, inlet: Inlet) -> Case
-    ensures { result ≡ async_case header.now plain newest inlet }
+fn async_case(
+    header: &MessageHeader,
+    plain: Blob,
+    newest: Option<u32>,
+    id_state: StreamIdState,
+) -> Case
+    ensures { result ≡ async_case header.now plain newest id_state }
 {
     if plain.len() > MESSAGE_LENGTH_MAX {
         return Case::Skipped;
@@ -125,32 +130,32 @@ fn async_case(header: &MessageHeader, plain: Blob, newest: Option<u32>, inlet: I
         return Case::EvenId;
     }
     if header.type_ == MESSAGE_TYPE_REQUEST {
-        return inlet_case(header.stream_id, newest, plain, inlet);
+        return id_state_case(header.stream_id, newest, plain, id_state);
     }
     if header.type_ == MESSAGE_TYPE_DATA {
-        return data_case(plain, inlet);
+        return data_case(plain, id_state);
     }
     Case::Skipped
 }
 
 // Returns the case of data, by the state of their id.
-fn data_case(plain: Blob, inlet: Inlet) -> Case
-    ensures { result ≡ data_case plain inlet }
+fn data_case(plain: Blob, id_state: StreamIdState) -> Case
+    ensures { result ≡ data_case plain id_state }
 {
-    match inlet {
-        Inlet::Absent | Inlet::Busy => Case::Inactive,
-        Inlet::Taking => Case::PutsIn(plain),
-        Inlet::Full => Case::Skipped,
+    match id_state {
+        StreamIdState::Absent | StreamIdState::Busy => Case::Inactive,
+        StreamIdState::Taking => Case::PutsIn(plain),
+        StreamIdState::Full => Case::Skipped,
     }
 }
 
 // Returns the case of a request, by the state of its id.
-fn inlet_case(stream_id: u32, newest: Option<u32>, plain: Blob, inlet: Inlet) -> Case
-    ensures { result ≡ inlet_case stream_id newest plain inlet }
+fn id_state_case(stream_id: u32, newest: Option<u32>, plain: Blob, id_state: StreamIdState) -> Case
+    ensures { result ≡ id_state_case stream_id newest plain id_state }
 {
-    match inlet {
-        Inlet::Absent => newer_case(stream_id, newest, plain),
-        Inlet::Busy | Inlet::Taking | Inlet::Full => Case::InUse,
+    match id_state {
+        StreamIdState::Absent => newer_case(stream_id, newest, plain),
+        StreamIdState::Busy | StreamIdState::Taking | StreamIdState::Full => Case::InUse,
     }
 }
 
@@ -186,32 +191,33 @@ pub fn case_response(
 }
 
 /// Returns the action of a request, by the methods and streams that the server has.
-pub fn asked_of(rules: Rules, registry: &Registry, request: &Request) -> Asked
-    ensures { result ≡ asked_of rules registry.now request.now }
+pub fn request_kind_of(rules: Rules, registry: &Registry, request: &Request) -> RequestKind
+    ensures { result ≡ request_kind_of rules registry.now request.now }
 {
     if registry.has_method(&request.service, &request.method) {
-        return Asked::Call;
+        return RequestKind::Call;
     }
     match rules {
-        Rules::Sync => Asked::NoPath,
-        Rules::Async if registry.has_stream(&request.service, &request.method) => Asked::Stream,
-        Rules::Async if registry.has_service(&request.service) => Asked::NoMethod,
-        Rules::Async => Asked::NoService,
+        Rules::Sync => RequestKind::NoPath,
+        Rules::Async if registry.has_stream(&request.service, &request.method) =>
+            RequestKind::Stream,
+        Rules::Async if registry.has_service(&request.service) => RequestKind::NoMethod,
+        Rules::Async => RequestKind::NoService,
     }
 }
 
 /// Returns the answer to a request that was read, if there is one.
-pub fn asked_response(
+pub fn request_kind_response(
     alloc: Global,
     request: &Request,
-    asked: Asked,
+    asked: RequestKind,
 ) -> Result<Option<Response>, AllocError>
-    ensures { IfOk result (λ told. told ≡ asked_answer request.now asked) }
+    ensures { IfOk result (λ told. told ≡ request_kind_answer request.now asked) }
 {
     match asked {
-        Asked::Call | Asked::Stream => Ok(None),
-        Asked::NoPath => Ok(Some(path_response(alloc, &request.service, &request.method)?)),
-        Asked::NoService => Ok(Some(service_response(alloc, &request.service)?)),
-        Asked::NoMethod => Ok(Some(method_response(alloc, &request.method)?)),
+        RequestKind::Call | RequestKind::Stream => Ok(None),
+        RequestKind::NoPath => Ok(Some(path_response(alloc, &request.service, &request.method)?)),
+        RequestKind::NoService => Ok(Some(service_response(alloc, &request.service)?)),
+        RequestKind::NoMethod => Ok(Some(method_response(alloc, &request.method)?)),
     }
 }

@@ -12,7 +12,7 @@ ghost use Rattle.ttrpc_server.specs.declared.job.ActiveJob.{ActiveJob as AJob};
 ghost use Rattle.ttrpc_server.specs.Protocol.{Answers, AnswersError, Finishes, Hands, HasNoJob, HasOtherRules, HasUnsent, HasUnsentResponse, QueuesResponse, drained, new_core, serving, RefusesAnswer, RefusesFinish, RefusesResponse, IsDeadline, Passes, due_jobs, timeout_room};
 ghost use Rattle.ttrpc_server.specs.State.{IsTaken, IsUnknown, NoneWaits, Rising, is_stream, waits};
 
-use crate::expiry::{Stop, has_room};
+use crate::expiry::{StopReason, has_room};
 use crate::job::{Job, JobId};
 use crate::registry::Registry;
 use crate::replies::send_response;
@@ -201,8 +201,8 @@ impl<O: OutboundTransform + Drop, I: InboundTransform + Drop> ServerCore<O, I> {
             return;
         }
         match self.state.expire(alloc, &mut self.connection.outbox, now) {
-            Ok(()) | Err(Stop::NoRoom) => {}
-            Err(Stop::NoMemory) => self.connection.fail(Failure::NoMemory),
+            Ok(()) | Err(StopReason::NoRoom) => {}
+            Err(StopReason::NoMemory) => self.connection.fail(Failure::NoMemory),
         }
     }
 

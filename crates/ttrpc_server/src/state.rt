@@ -1,5 +1,5 @@
 //! The state of a server core, without its connection, and its reactions to whole frames. A function without an `alloc` argument takes no
-//! memory, except `bring`, `make` and `make_job`.
+//! memory, except `deliver`, `make` and `make_job`.
 ghost use Rattle.std.specs.Prelude.{◌≡◌, ◌≤◌, ◌+◌, ◌⊎◌, [], true, false, IfErr, IfOk, IfSome, IfNone, OnErr, OnOk, None, Some, ◌<◌, ◌^◌, ◌++◌, ℕ, option_to_list};
 ghost use Rattle.ttrpc_proto.specs.Framing.Queue.{free};
 ghost use Rattle.ttrpc_proto.specs.Messages.{empty_request, request_step};
@@ -11,9 +11,9 @@ ghost use Rattle.ttrpc_server.specs.Kept.{AreSingle, AreUnary};
 ghost use Rattle.ttrpc_server.specs.Inside.{FailsOn, FailsToMake, SendsSome, StopsExpiring};
 ghost use Rattle.ttrpc_server.specs.State.{EndsOne, HandsOne, IsNoUnary, IsTaken, NoneWaits, Rising, is_stream, job_at, jobs_at, new_server, on_mail, put_in, stream_body, unary_body, with_job, with_list, with_made, with_newest, without_payload};
 ghost use Rattle.ttrpc_server.specs.declared.rows.Case.{Case as ACase};
-ghost use Rattle.ttrpc_server.specs.declared.rows.Inlet.{Inlet as AnInlet};
+ghost use Rattle.ttrpc_server.specs.declared.rows.StreamIdState.{StreamIdState as AStreamIdState};
 ghost use Rattle.ttrpc_connection.specs.declared.failure.Failure.{Failure as AFailure};
-ghost use Rattle.ttrpc_server.specs.Table.{inlet_of, newest_after, request_row};
+ghost use Rattle.ttrpc_server.specs.Table.{id_state_of, newest_after, request_row};
 ghost use Rattle.ttrpc_server.specs.Mailboxes.{mail_at};
 ghost use Rattle.ttrpc_server.specs.Streaming.{HasNoStreams, ReceivesBy, unreceivable, unsendable};
 ghost use Rattle.ttrpc_connection.specs.Failure.{IsTold};
@@ -24,22 +24,25 @@ ghost use Rattle.std.specs.BTreeMap.{is_at};
 ghost use Rattle.std.specs.Ordering.{nat_cmp};
 ghost use Rattle.std.specs.Set.{remove_key};
 
-use crate::expiry::{Expiry, Stop, expire_job};
+use crate::expiry::{Expiry, StopReason, expire_job};
 use crate::index::Index;
 use crate::job::{Body, Job, JobId};
 use crate::jobs::Jobs;
 use crate::registry::Registry;
 use crate::replies::{send_answer, send_own_answer};
 use crate::responses::{other_rules_error, unknown_stream_error, unreadable_response};
-use crate::rows::{Asked, Case, Inlet, asked_of, asked_response, case_of, case_response};
+use crate::rows::{
+    Case, RequestKind, StreamIdState, case_of, case_response, request_kind_of,
+    request_kind_response,
+};
 use crate::rules::Rules;
 use std::alloc::{AllocError, Global};
 use std::collections::BTreeSet;
 use std::marker::Model;
 use ttrpc_connection::deadlines::deadline_of;
-use ttrpc_connection::mailbox::past;
+use ttrpc_connection::mailbox::past_error;
 use ttrpc_connection::thing::{closes, of_data, of_opening};
-use ttrpc_connection::{Arrived, Failure, Mailbox, Outbox, Reacts, Thing};
+use ttrpc_connection::{Arrived, Failure, Mailbox, MailboxEntry, Outbox, Reacts};
 use ttrpc_proto::{Error, MESSAGE_HEADER_LENGTH, MESSAGE_LENGTH_MAX, MessageHeader, Request};
 use ttrpc_secure::OutboundTransform;
 use ttrpc_wire::codec::in_place::decode_in_place;
@@ -155,15 +158,15 @@ impl ServerState {
     }
 
     /// Returns the state of a stream id for a frame under it, as async rules need it.
-    fn inlet(&self, stream_id: u32) -> Inlet
+    fn id_state(&self, stream_id: u32) -> StreamIdState
         ensures { self.now.rules ≡ Rules.Async
-            → result ≡ inlet_of (jobs_at self.now.jobs.list stream_id) }
+            → result ≡ id_state_of (jobs_at self.now.jobs.list stream_id) }
     {
         let Some(id) = self.index.job_of(stream_id) else {
-            return Inlet::Absent;
+            return StreamIdState::Absent;
         };
         self.jobs.lemma_rise();
-        self.jobs.inlet(id).unwrap_or(Inlet::Absent)
+        self.jobs.id_state(id).unwrap_or(StreamIdState::Absent)
     }
 
     /// Reads a payload as a request, which is the newest one under async rules, and acts on it. An `Err` changes nothing.
@@ -248,14 +251,14 @@ impl ServerState {
             × FailsOn (request_row self.old.rules self.old.services (Some request))
             self.old failure) }
     {
-        match asked_of(self.rules, &self.registry, &request) {
-            Asked::Call => {
+        match request_kind_of(self.rules, &self.registry, &request) {
+            RequestKind::Call => {
                 let body = unary_body(self.rules, now, &request);
                 self.make(header, request, body)
             }
-            Asked::Stream => self.open(alloc, header, request),
+            RequestKind::Stream => self.open(alloc, header, request),
             asked => {
-                let answer = asked_response(alloc, &request, asked)?;
+                let answer = request_kind_response(alloc, &request, asked)?;
                 send_answer(alloc, outbox, self.rules, header.stream_id, &answer)
             }
         }
@@ -284,7 +287,7 @@ impl ServerState {
             metadata,
         } = request;
         let first = of_opening(self.registry.has_bare_openings(), header.flags, payload);
-        let mailbox = Mailbox::opened(alloc, first, closes(header.flags))?;
+        let mailbox = Mailbox::with_first(alloc, first, closes(header.flags))?;
         let request = Request {
             service,
             method,
@@ -298,8 +301,8 @@ impl ServerState {
     /// Puts data into the mailbox of the stream of their id. An `Err` changes nothing.
     fn put(&mut self, alloc: Global, header: &MessageHeader, plain: Blob) -> Result<(), Failure>
         requires rules { self.old.rules ≡ Rules.Async }
-        requires takes { inlet_of
-            (jobs_at self.old.jobs.list header.now.stream_id) ≡ AnInlet.Taking }
+        requires takes { id_state_of
+            (jobs_at self.old.jobs.list header.now.stream_id) ≡ AStreamIdState.Taking }
         ensures ok { OnOk result (self.new ≡ put_in self.old header.now plain) }
         ensures err { IfErr result
             (λ failure. (self.new ≡ self.old) × (failure ≡ AFailure.NoMemory)) }
@@ -309,14 +312,14 @@ impl ServerState {
         };
         let thing = of_data(alloc, header.stream_id, header.flags, plain)?;
         self.jobs.lemma_rise();
-        match self.bring(id, thing, closes(header.flags)) {
+        match self.deliver(id, thing, closes(header.flags)) {
             Ok(()) => Ok(()),
             Err(refused) => Err(refused.into()),
         }
     }
 
     /// Puts a thing into the mailbox of a stream's job, and lists the job as one for which something came. An `Err` changes nothing.
-    fn bring(&mut self, id: JobId, thing: Thing, ends: bool) -> Result<(), AllocError>
+    fn deliver(&mut self, id: JobId, thing: MailboxEntry, ends: bool) -> Result<(), AllocError>
         ensures ok { OnOk result (self.new ≡ record self.old {
           jobs = record self.old.jobs { list = on_mail id (λ m. with_thing m thing ends) self.old.jobs.list };
           heard = insert_key nat_cmp self.old.heard id;
@@ -421,18 +424,18 @@ impl ServerState {
         }
         match self.jobs.recv(alloc, id, failure) {
             Some(given) => given,
-            None => Some(Err(self.astray(alloc, id))),
+            None => Some(Err(self.no_stream_error(alloc, id))),
         }
     }
 
     /// Returns the error why nothing is received for a job without a stream.
-    fn astray(&self, alloc: Global, id: JobId) -> Error
+    fn no_stream_error(&self, alloc: Global, id: JobId) -> Error
         requires { mail_at self.now.jobs.list id ≡ None }
         ensures { (error : AnError)
             × (unreceivable self.now.jobs id ≡ Some error) × IsTold error result }
     {
         match self.jobs.stream_at(id) {
-            None if self.jobs.was_made(id) => past(alloc),
+            None if self.jobs.was_made(id) => past_error(alloc),
             _ => unknown_stream_error(alloc),
         }
     }
@@ -490,7 +493,7 @@ impl ServerState {
         alloc: Global,
         outbox: &mut Outbox<O>,
         now: u64,
-    ) -> Result<(), Stop>
+    ) -> Result<(), StopReason>
         requires { self.old.rules ≡ Rules.Async }
         ensures ok { OnOk result (ExpireAll O.OutboundTransform self.old outbox.old
             (due_jobs now self.old.jobs.list) self.new outbox.new) }
@@ -564,8 +567,8 @@ impl<O: OutboundTransform + Drop> Reacts<O> for ServerState {
     ) -> Result<(), Failure> {
         let header = arrived.header;
         let newest = self.jobs.newest();
-        let inlet = self.inlet(header.stream_id);
-        match case_of(self.rules, &header, arrived.opening, newest, inlet) {
+        let id_state = self.id_state(header.stream_id);
+        match case_of(self.rules, &header, arrived.opening, newest, id_state) {
             Case::Asks(plain) => self.see(alloc, outbox, header, plain, arrived.now),
             Case::PutsIn(plain) => self.put(alloc, &header, plain),
             case => {

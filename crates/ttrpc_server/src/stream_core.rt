@@ -28,14 +28,14 @@ impl<O: OutboundTransform + Drop, I: InboundTransform + Drop> StreamCore for Ser
     ghost refuses_close = { λ old id told.
         IsTold (Others (codes "a server closes a stream by ending it")) told };
 
-    ghost unsends = { λ old id new. new ≡ old };
+    ghost stops_sending = { λ old id new. new ≡ old };
 
     ghost receives = { λ old id given new. ReceivesOne old id given new };
 
     ghost tells_sent = { λ c ticket told. TellsSent (is_sent c.connection.outbox.queue ticket)
         c.connection.failure told };
 
-    ghost unhears = { λ old id new. new ≡ unheard old id };
+    ghost stops_receiving = { λ old id new. new ≡ unheard old id };
 
     fn send_item(&mut self, alloc: Global, id: JobId, item: &[u8]) -> Result<Ticket> {
         self.send(alloc, id, item)
@@ -46,7 +46,7 @@ impl<O: OutboundTransform + Drop, I: InboundTransform + Drop> StreamCore for Ser
         Err(others_error(text))
     }
 
-    fn unsend(&mut self, _id: JobId) {}
+    fn stop_sending(&mut self, _id: JobId) {}
 
     fn recv_item(&mut self, alloc: Global, id: JobId) -> Option<Result<Blob>> {
         self.recv(alloc, id)
@@ -56,7 +56,7 @@ impl<O: OutboundTransform + Drop, I: InboundTransform + Drop> StreamCore for Ser
         self.sent(alloc, ticket)
     }
 
-    fn unhear(&mut self, id: JobId) {
+    fn stop_receiving(&mut self, id: JobId) {
         self.drop_receiver(id);
     }
 }

@@ -16,7 +16,7 @@ use std::alloc::Global;
 use ttrpc_connection::items::{CLOSE_FLAGS, send_data, stream_frame, unsent_error};
 use ttrpc_connection::{Outbox, Ticket};
 use ttrpc_proto::{Error, MESSAGE_TYPE_DATA, Response};
-use ttrpc_secure::sending::{Parts, SendError};
+use ttrpc_secure::sending::{DataParts, SendError};
 use ttrpc_secure::{InboundTransform, OutboundTransform};
 use ttrpc_wire::Blob;
 use ttrpc_wire::codec::message::WireMessage;
@@ -153,7 +153,7 @@ fn send_close<O: OutboundTransform + Drop>(
     ensures err { OnErr result (outbox.new ≡ outbox.old) }
 {
     let frame = stream_frame(alloc, stream_id, MESSAGE_TYPE_DATA, CLOSE_FLAGS, None);
-    match outbox.send(alloc, frame, Parts::whole(&[])) {
+    match outbox.send(alloc, frame, DataParts::whole(&[])) {
         Ok(()) => Ok(()),
         Err(SendError::Failed(refused)) => Err(unsent_error(alloc, &refused)),
         Err(SendError::NoRoom) => Err(Error::NoRoom),

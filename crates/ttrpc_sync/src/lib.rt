@@ -15,11 +15,11 @@ mod ports;
 mod work;
 
 pub use ends::{
-    BATCH_BYTES, BATCH_LOANS, Batch, Connected, Held, Loan, Next, ReadEnd, Taken, Turn, WriteEnd,
-    wait_for_room,
+    BATCH_BYTES, BATCH_LOANS, Batch, ConnectionLock, Loan, LockedState, Next, ReadEnd, Taken,
+    WriteEnd, WriteTurn, wait_for_room,
 };
 pub use gather::{GATHER_LIMIT, Gather, PART_LIMIT, ROOM_AT_REST, SHORT_LIMIT};
-pub use link::{AfterQueuing, Host, Link, Outlet, Runtime, after_queuing};
+pub use link::{AfterQueuing, ConnectionWriter, Host, Link, Runtime, after_queuing};
 pub use locking::{lock_soon, wait_soon};
 pub use loops::{read_loop, write_loop};
 pub use pool::PoolCore;

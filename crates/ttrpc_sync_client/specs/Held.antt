@@ -15,10 +15,10 @@ use Rattle.ttrpc_client.specs.State.{due_ids}
 use Rattle.ttrpc_client.specs.Inside.{calling}
 use Rattle.ttrpc_client.specs.declared.client.ClientCore.{ClientCore}
 use Rattle.ttrpc_sync.specs.declared.ends.connected.Taken.{Taken}
-use Rattle.ttrpc_sync_client.specs.ReadTurns.{ended, hands_over, onward_of, reads_on, turn_onward}
-use Rattle.ttrpc_sync_client.specs.declared.ports.client.Woken.{Woken}
+use Rattle.ttrpc_sync_client.specs.ReadTurns.{ended, hands_over, reader_next_of, reads_on, turn_reader_next}
+use Rattle.ttrpc_sync_client.specs.declared.ports.client.ClientWakeSet.{ClientWakeSet}
 use Rattle.ttrpc_sync_client.specs.declared.ports.read_turn.TheConstants.{LONE_FRAME}
-use Rattle.ttrpc_sync_client.specs.declared.ports.read_turn.Manner.{Manner}
+use Rattle.ttrpc_sync_client.specs.declared.ports.read_turn.CallShape.{CallShape}
 use Rattle.ttrpc_sync_client.specs.declared.ports.read_turn.ReadTurn.{ReadTurn}
 
 -- ---- calls that have ended
@@ -64,21 +64,21 @@ pub record IsFed {O I : Type 0} (seals : OutboundTransform O) (opens : InboundTr
   pub callers : IfSome places (ArePlaces fed.state.ended)
 
 -- the places of the callers that are to be woken for a piece
-abbrev pub callers_of : Taken Woken → ℕ
+abbrev pub callers_of : Taken ClientWakeSet → ℕ
 callers_of taken = taken.woken.callers
 
 -- the reader's action after a piece that was taken; if the piece wasn't taken, the turn is unchanged
-abbrev pub GoesOn : ReadTurn → Option (Taken Woken) → ReadTurn → Type 0
+abbrev pub GoesOn : ReadTurn → Option (Taken ClientWakeSet) → ReadTurn → Type 0
 GoesOn turn None new = new ≡ turn
 GoesOn turn (Some taken) new =
-    (taken.reads_on ≡ reads_on (onward_of turn.reader turn)) × (taken.woken.reader ≡ hands_over (onward_of turn.reader turn))
-    × (new ≡ turn_onward (onward_of turn.reader turn) turn)
+    (taken.reads_on ≡ reads_on (reader_next_of turn.reader turn)) × (taken.woken.reader ≡ hands_over (reader_next_of turn.reader turn))
+    × (new ≡ turn_reader_next (reader_next_of turn.reader turn) turn)
 
 -- A piece came and was fed, and its reader goes on as it may then.
-pub record TakesPiece {O I : Type 0} (seals : OutboundTransform O) (opens : InboundTransform I) (old : ClientCore O I) (reading : ReadTurn) (piece : List ℕ) (given : Option (Taken Woken)) (new : ClientCore O I) (after : ReadTurn) : Type 0 where
+pub record TakesPiece {O I : Type 0} (seals : OutboundTransform O) (opens : InboundTransform I) (old : ClientCore O I) (reading : ReadTurn) (piece : List ℕ) (given : Option (Taken ClientWakeSet)) (new : ClientCore O I) (after : ReadTurn) : Type 0 where
   pub told : ReadTurn
   pub fed : IsFed seals opens old reading piece (option_map callers_of given) new told
-  pub onward : GoesOn told given after
+  pub reader_next : GoesOn told given after
 
 -- ---- bytes out
 
@@ -92,10 +92,10 @@ is_alive core = if is_some core.connection.failure then false else true
 
 -- ---- calls
 
--- the manner of a call that was made at a moment: whether it may expire, whether nothing waited to be written before it, and whether its
+-- the shape of a call that was made at a moment: whether it may expire, whether nothing waited to be written before it, and whether its
 -- frame is short
-abbrev pub manner_of : {O I : Type 0} → ClientCore O I → Request → (now : ℕ) → ClientCore O I → Manner
-manner_of old request now new = record {
+abbrev pub shape_of : {O I : Type 0} → ClientCore O I → Request → (now : ℕ) → ClientCore O I → CallShape
+shape_of old request now new = record {
   has_deadline = is_some (deadline_of now request.timeout_nano);
   is_next = nat_eq (lendable old.connection) 0;
   is_short = nat_le (lendable new.connection) LONE_FRAME;

@@ -5,11 +5,11 @@ use Rattle.ttrpc_proto.specs.declared.error.Error.{Error}
 use Rattle.ttrpc_proto.specs.declared.error.Error.TheVariants.{RpcStatus}
 use Rattle.ttrpc_proto.specs.declared.messages.Response.{Response}
 use Rattle.ttrpc_sync_client.specs.declared.ports.read_turn.TheConstants.{CALLS_TO_REST}
-use Rattle.ttrpc_sync_client.specs.declared.ports.read_turn.Reader.{Reader}
-use Rattle.ttrpc_sync_client.specs.declared.ports.read_turn.Reader.TheVariants.{Nobody, Thread, Caller}
-use Rattle.ttrpc_sync_client.specs.declared.ports.read_turn.Onward.{Onward}
-use Rattle.ttrpc_sync_client.specs.declared.ports.read_turn.Onward.TheVariants.{Reads, Leaves, HandsOver}
-use Rattle.ttrpc_sync_client.specs.declared.ports.read_turn.Manner.{Manner}
+use Rattle.ttrpc_sync_client.specs.declared.ports.read_turn.CurrentReader.{CurrentReader}
+use Rattle.ttrpc_sync_client.specs.declared.ports.read_turn.CurrentReader.TheVariants.{Nobody, Thread, Caller}
+use Rattle.ttrpc_sync_client.specs.declared.ports.read_turn.ReaderNext.{ReaderNext}
+use Rattle.ttrpc_sync_client.specs.declared.ports.read_turn.ReaderNext.TheVariants.{Reads, Leaves, HandsOver}
+use Rattle.ttrpc_sync_client.specs.declared.ports.read_turn.CallShape.{CallShape}
 use Rattle.ttrpc_sync_client.specs.declared.ports.read_turn.ReadTurn.{ReadTurn}
 
 -- a turn that no thread has, without a call under way
@@ -17,13 +17,13 @@ abbrev pub new_turn : ReadTurn
 new_turn = record { reader = Nobody; sleeps = false; callers = 0; alone = 0; last = None; unread = None }
 
 -- No thread reads.
-abbrev pub is_free : Reader → Bool
+abbrev pub is_free : CurrentReader → Bool
 is_free Nobody = true
 is_free Thread = false
 is_free (Caller id) = false
 
 -- The caller of this call reads.
-abbrev pub reads_for : Reader → ℕ → Bool
+abbrev pub reads_for : CurrentReader → ℕ → Bool
 reads_for Nobody id = false
 reads_for Thread id = false
 reads_for (Caller other) id = nat_eq other id
@@ -34,16 +34,16 @@ is_call None id = false
 is_call (Some other) id = nat_eq other id
 
 -- A caller may write for itself: nothing waits before its frame, and it has no deadline. With a deadline, a write could hold it too long.
-abbrev pub may_write : Manner → Bool
-may_write manner = if manner.is_next then (if manner.has_deadline then false else true) else false
+abbrev pub may_write : CallShape → Bool
+may_write shape = if shape.is_next then (if shape.has_deadline then false else true) else false
 
 -- No other call is under way, and the peer has read all bytes that were written, since it answered the last call.
 abbrev pub is_first : ReadTurn → Bool
 is_first turn = if is_some turn.unread then false else nat_eq turn.callers 0
 
 -- A caller that writes for itself may read for itself, too, if its frame is short, and it is the first.
-abbrev pub is_alone : ReadTurn → Manner → Bool
-is_alone turn manner = if manner.is_short then (if is_first turn then may_write manner else false) else false
+abbrev pub is_alone : ReadTurn → CallShape → Bool
+is_alone turn shape = if shape.is_short then (if is_first turn then may_write shape else false) else false
 
 -- the turn after a call has begun
 abbrev pub begun : ReadTurn → ℕ → (is_alone : Bool) → ReadTurn
@@ -92,25 +92,25 @@ abbrev pub leaves_others : ReadTurn → Bool
 leaves_others turn = if turn.sleeps then nat_lt 1 turn.callers else false
 
 -- the next action of a reader after a piece; if no thread has the turn any more, the piece ended the call of the reading caller
-abbrev pub onward_of : Reader → ReadTurn → Onward
-onward_of Nobody turn = if leaves_others turn then HandsOver else Leaves
-onward_of Thread turn = if may_rest turn then Leaves else Reads
-onward_of (Caller id) turn = Reads
+abbrev pub reader_next_of : CurrentReader → ReadTurn → ReaderNext
+reader_next_of Nobody turn = if leaves_others turn then HandsOver else Leaves
+reader_next_of Thread turn = if may_rest turn then Leaves else Reads
+reader_next_of (Caller id) turn = Reads
 
 -- the turn after that action
-abbrev pub turn_onward : Onward → ReadTurn → ReadTurn
-turn_onward Reads turn = turn
-turn_onward Leaves turn = record turn { reader = Nobody }
-turn_onward HandsOver turn = record turn { sleeps = false }
+abbrev pub turn_reader_next : ReaderNext → ReadTurn → ReadTurn
+turn_reader_next Reads turn = turn
+turn_reader_next Leaves turn = record turn { reader = Nobody }
+turn_reader_next HandsOver turn = record turn { sleeps = false }
 
 -- The reader reads on.
-abbrev pub reads_on : Onward → Bool
+abbrev pub reads_on : ReaderNext → Bool
 reads_on Reads = true
 reads_on Leaves = false
 reads_on HandsOver = false
 
 -- The reader thread is to be woken.
-abbrev pub hands_over : Onward → Bool
+abbrev pub hands_over : ReaderNext → Bool
 hands_over Reads = false
 hands_over Leaves = false
 hands_over HandsOver = true

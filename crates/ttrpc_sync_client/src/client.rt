@@ -8,7 +8,7 @@ ghost use Rattle.ttrpc_secure.specs.declared.hooks.HookOutput.{HookOutput as AnO
 ghost use Rattle.ttrpc_sync_client.specs.Making.{IsNotConnected, IsNotMade, IsRefusedByHook, NamesPlace};
 
 use crate::connection::ClientConn;
-use crate::ports::{ClientRead, ClientShared};
+use crate::ports::{ClientLock, ClientRead};
 use std::alloc::Global;
 use std::io;
 use std::marker::Model;
@@ -142,7 +142,7 @@ where
         outbound,
         inbound,
     } = output;
-    let shared = ClientShared::new(core_of(alloc, outbound, inbound)?);
+    let shared = ClientLock::new(core_of(alloc, outbound, inbound)?);
     let stream = Arc::new(alloc, stream)?;
     let link = Arc::new(alloc, Link::new(alloc, shared, stream)?)?;
     let connection = ClientConn::new(Arc::try_clone(&link)?, connection_data);
@@ -176,7 +176,7 @@ fn fault(error: io::Error) -> Error
     Error::Nix(error.kind())
 }
 
-fn start_reader<R, O, I>(rt: &R, link: Arc<Link<ClientShared<O, I>>, Global>) -> Result<()>
+fn start_reader<R, O, I>(rt: &R, link: Arc<Link<ClientLock<O, I>>, Global>) -> Result<()>
 where
     R: Runtime,
     O: SendOutbound,
@@ -193,7 +193,7 @@ where
 }
 
 /// Reads for callers that don't read themselves, until the connection has failed.
-fn read_for_callers<R, O, I>(rt: &R, link: &Link<ClientShared<O, I>>)
+fn read_for_callers<R, O, I>(rt: &R, link: &Link<ClientLock<O, I>>)
 where
     R: Host,
     O: OutboundTransform + Drop,
@@ -205,12 +205,12 @@ where
         if !shared.wait_to_read(rt) {
             return;
         }
-        link.read_on(rt, &mut port);
+        link.run_reader(rt, &mut port);
     }
     unreachable!()
 }
 
-fn start_writer<R, O, I>(rt: &R, link: Arc<Link<ClientShared<O, I>>, Global>) -> Result<()>
+fn start_writer<R, O, I>(rt: &R, link: Arc<Link<ClientLock<O, I>>, Global>) -> Result<()>
 where
     R: Runtime,
     O: SendOutbound,

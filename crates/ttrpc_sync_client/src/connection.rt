@@ -8,7 +8,7 @@ ghost use Rattle.ttrpc_sync_client.specs.Held.{HasTicked};
 ghost use Rattle.ttrpc_sync_client.specs.ReadTurns.{finished, is_answer, turn_asked};
 ghost use Rattle.ttrpc_transport.specs.Sockets.{IsFault};
 
-use crate::ports::{ClientHeld, ClientRead, ClientShared, LONE_FRAME, Manner};
+use crate::ports::{CallShape, ClientHeld, ClientLock, ClientRead, LONE_FRAME};
 use std::alloc::Global;
 use std::marker::Model;
 use std::sync::{Arc, Condvar, MutexGuard};
@@ -19,12 +19,13 @@ use ttrpc_connection::deadlines::deadline_of;
 use ttrpc_proto::{Error, Request, Response, Result};
 use ttrpc_secure::{ConnectionData, InboundTransform, OutboundTransform};
 use ttrpc_sync::{
-    AfterQueuing, Connected, Held, Host, Link, after_queuing, lock_soon, moment, wait_soon,
+    AfterQueuing, ConnectionLock, Host, Link, LockedState, after_queuing, lock_soon, moment,
+    wait_soon,
 };
 
 /// A client's connection. Contracts see it as the connection's data. It is closed when its last client is dropped.
 pub struct ClientConn<O: OutboundTransform + Drop, I: InboundTransform + Drop> {
-    link: Arc<Link<ClientShared<O, I>>, Global>,
+    link: Arc<Link<ClientLock<O, I>>, Global>,
     known: ConnectionData,
 }
 
@@ -46,7 +47,7 @@ impl<O: OutboundTransform + Drop, I: InboundTransform + Drop> Drop for ClientCon
 
 /// A call that waits for its outcome.
 #[derive(Clone, Copy)]
-struct Waiting {
+struct WaitingCall {
     id: CallId,
     /// The moment at which the call expires, in nanoseconds.
     deadline: Option<u128>,
@@ -56,8 +57,8 @@ struct Waiting {
 
 /// A call after its request was queued and the lock was released.
 #[derive(Clone, Copy)]
-struct Asked {
-    waiting: Waiting,
+struct QueuedCall {
+    waiting: WaitingCall,
     queued: AfterQueuing,
     /// True if the reader thread is to be woken.
     wakes: bool,
@@ -65,10 +66,7 @@ struct Asked {
 
 impl<O: OutboundTransform + Drop, I: InboundTransform + Drop> ClientConn<O, I> {
     /// Makes a connection over `link`, with its data.
-    pub fn new(
-        link: Arc<Link<ClientShared<O, I>>, Global>,
-        known: ConnectionData,
-    ) -> ClientConn<O, I>
+    pub fn new(link: Arc<Link<ClientLock<O, I>>, Global>, known: ConnectionData) -> ClientConn<O, I>
         ensures { result ≡ facts_of known.entries }
     {
         ClientConn { link, known }
@@ -92,7 +90,7 @@ impl<O: OutboundTransform + Drop, I: InboundTransform + Drop> ClientConn<O, I> {
 
     /// Queues the request of a call as soon as there is room, and makes sure that a thread writes it and a thread reads. If the call's
     /// deadline comes before there is room, the call has expired.
-    fn ask<R: Host>(&self, rt: &R, request: &Request, now: u64) -> Result<Waiting>
+    fn ask<R: Host>(&self, rt: &R, request: &Request, now: u64) -> Result<WaitingCall>
         ensures { IfOk result
             (λ waiting. waiting.deadline ≡ deadline_of now request.now.timeout_nano) }
     {
@@ -103,7 +101,7 @@ impl<O: OutboundTransform + Drop, I: InboundTransform + Drop> ClientConn<O, I> {
             match queue_request(&mut guard, rt.alloc(), request, now) {
                 Ok(asked) => {
                     drop(guard);
-                    return Ok(self.asked(rt, asked));
+                    return Ok(self.write_queued(rt, asked));
                 }
                 Err(Error::NoRoom) => {
                     if deadline.is_some_and(|at| at <= u128::from(moment(rt).unwrap_or(0))) {
@@ -118,14 +116,14 @@ impl<O: OutboundTransform + Drop, I: InboundTransform + Drop> ClientConn<O, I> {
     }
 
     /// Makes sure that the request of a call is written, and that a thread reads.
-    fn asked<R: Host>(&self, rt: &R, asked: Asked) -> Waiting
+    fn write_queued<R: Host>(&self, rt: &R, asked: QueuedCall) -> WaitingCall
         ensures { result ≡ asked.waiting }
     {
         // The reader comes first: otherwise a peer that writes before it reads would block the thread that writes a long frame.
         if asked.wakes {
             self.link.shared().wake_reader();
         }
-        self.link.go_on(rt, asked.queued);
+        self.link.write_or_wake(rt, asked.queued);
         asked.waiting
     }
 
@@ -153,12 +151,12 @@ impl<O: OutboundTransform + Drop, I: InboundTransform + Drop> ClientConn<O, I> {
         let may_read = lock_soon(rt, shared.held()).reading.take(id);
         if may_read {
             let mut port = ClientRead::new(rt, rt.alloc(), shared);
-            self.link.read_on(rt, &mut port);
+            self.link.run_reader(rt, &mut port);
         }
     }
 
     /// Waits for the outcome of a call. Reports the time to the core after each time it wakes.
-    fn wait<R: Host>(&self, rt: &R, waiting: Waiting) -> Result<Response> {
+    fn wait<R: Host>(&self, rt: &R, waiting: WaitingCall) -> Result<Response> {
         let shared = self.link.shared();
         let mut guard = lock_soon(rt, shared.held());
         for _ in rt.forever() {
@@ -166,7 +164,7 @@ impl<O: OutboundTransform + Drop, I: InboundTransform + Drop> ClientConn<O, I> {
                 return outcome;
             }
             guard = self.sleep(rt, guard, waiting);
-            let has_ticked = ticked(rt, &mut guard);
+            let has_ticked = tick_if_due(rt, &mut guard);
             if let Err(error) = has_ticked {
                 give_up(&mut guard, waiting.id);
                 return Err(error);
@@ -180,7 +178,7 @@ impl<O: OutboundTransform + Drop, I: InboundTransform + Drop> ClientConn<O, I> {
         &self,
         rt: &R,
         guard: MutexGuard<'a, ClientHeld<O, I>>,
-        waiting: Waiting,
+        waiting: WaitingCall,
     ) -> MutexGuard<'a, ClientHeld<O, I>> {
         let caller = self.link.shared().caller(waiting.id);
         sleep_until(rt, caller, guard, waiting.deadline)
@@ -217,7 +215,7 @@ fn outcome_of<O: OutboundTransform + Drop, I: InboundTransform + Drop>(
     ensures turn { held.new.turn ≡ held.old.turn }
 {
     let outcome = held.take_outcome(alloc, id)?;
-    held.reading.finished(id, is_answer(&outcome));
+    held.reading.finish_call(id, is_answer(&outcome));
     Some(outcome)
 }
 
@@ -231,7 +229,7 @@ fn give_up<O: OutboundTransform + Drop, I: InboundTransform + Drop>(
     ensures turn { held.new.turn ≡ held.old.turn }
 {
     held.drop_call(id);
-    held.reading.finished(id, false);
+    held.reading.finish_call(id, false);
 }
 
 /// Returns whether the peer has answered the call, and so has read its request.
@@ -249,7 +247,7 @@ fn queue_request<O: OutboundTransform + Drop, I: InboundTransform + Drop>(
     alloc: Global,
     request: &Request,
     now: u64,
-) -> Result<Asked>
+) -> Result<QueuedCall>
     ensures ok { IfOk result
         (λ asked. Asks O.OutboundTransform held.old request.now now asked held.new) }
     ensures refused { IfErr result (RefusesRequest O.OutboundTransform held.old.core request.now) }
@@ -259,16 +257,16 @@ fn queue_request<O: OutboundTransform + Drop, I: InboundTransform + Drop>(
     let deadline = deadline_of(now, request.timeout_nano);
     let nothing_waits = held.core.lendable() == 0;
     let id = held.request(alloc, request, now)?;
-    let manner = Manner {
+    let shape = CallShape {
         has_deadline: deadline.is_some(),
         is_next: nothing_waits,
         is_short: held.core.lendable() <= LONE_FRAME,
     };
-    let is_alone = held.reading.begins(id, manner);
-    let queued = after_queuing(&mut held.turn, manner.may_write());
+    let is_alone = held.reading.begin_call(id, shape);
+    let queued = after_queuing(&mut held.turn, shape.may_write());
     let wakes = !is_alone && held.reading.wakes();
-    Ok(Asked {
-        waiting: Waiting {
+    Ok(QueuedCall {
+        waiting: WaitingCall {
             id,
             deadline,
             is_alone,
@@ -279,7 +277,7 @@ fn queue_request<O: OutboundTransform + Drop, I: InboundTransform + Drop>(
 }
 
 /// Reports the current moment to the core, if a call may expire.
-fn ticked<R: Host, O: OutboundTransform + Drop, I: InboundTransform + Drop>(
+fn tick_if_due<R: Host, O: OutboundTransform + Drop, I: InboundTransform + Drop>(
     rt: &R,
     held: &mut ClientHeld<O, I>,
 ) -> Result<()>

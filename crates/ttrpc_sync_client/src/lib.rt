@@ -8,6 +8,6 @@ pub mod ports;
 
 pub use client::Client;
 pub use ports::{
-    CALLS_TO_REST, ClientHeld, ClientRead, ClientShared, ClientWrite, LONE_FRAME, Manner, Onward,
-    ReadTurn, Reader,
+    CALLS_TO_REST, CallShape, ClientHeld, ClientLock, ClientRead, ClientWrite, CurrentReader,
+    LONE_FRAME, ReadTurn, ReaderNext,
 };

@@ -1,4 +1,4 @@
 pub mod Held
-pub mod Relays
+pub mod ReadTurns
 pub mod Backlogs
 pub mod Pauses

@@ -23,13 +23,13 @@ impl Accepts for PipeListener {
 /// The state by which a server is asked to stop. A server that waits to accept again learns from it that it is to listen no more, or that
 /// one of its connections has ended, so that a descriptor is free. The server's owner waits on it for the request to shut the server down.
 #[derive(Drop)]
-pub struct Stop {
-    told: Mutex<Told>,
+pub struct StopSignal {
+    requests: Mutex<StopRequests>,
     changed: Condvar,
 }
 
 #[derive(Drop)]
-struct Told {
+struct StopRequests {
     stops: bool,
     // The number of connections that have ended.
     ends: u64,
@@ -37,11 +37,11 @@ struct Told {
     shuts_down: bool,
 }
 
-impl Stop {
+impl StopSignal {
     /// Makes the state of a server that isn't asked to stop, and has no ended connections.
-    pub fn new() -> Stop {
-        Stop {
-            told: Mutex::new(Told {
+    pub fn new() -> StopSignal {
+        StopSignal {
+            requests: Mutex::new(StopRequests {
                 stops: false,
                 ends: 0,
                 shuts_down: false,
@@ -52,48 +52,52 @@ impl Stop {
 
     /// Begins to listen: withdraws an earlier request to stop.
     pub fn begin<X: Wait>(&self, rt: &X) {
-        self.told.lock(rt).stops = false;
+        self.requests.lock(rt).stops = false;
     }
 
     /// Asks the server to stop.
     pub fn ask<X: Wait>(&self, rt: &X) {
-        self.told.lock(rt).stops = true;
+        self.requests.lock(rt).stops = true;
         self.changed.notify_all();
     }
 
     /// Asks the server's owner to shut it down.
     pub fn ask_to_shut_down<X: Wait>(&self, rt: &X) {
-        self.told.lock(rt).shuts_down = true;
+        self.requests.lock(rt).shuts_down = true;
         self.changed.notify_all();
     }
 
     /// Waits until the server's owner was asked to shut it down.
     pub fn wait_to_shut_down<X: Wait>(&self, rt: &X) {
-        let told = self.told.lock(rt);
-        let _ = self.changed.wait_while(rt, told, |told| !told.shuts_down);
+        let requests = self.requests.lock(rt);
+        let _ = self
+            .changed
+            .wait_while(rt, requests, |requests| !requests.shuts_down);
     }
 
     /// Reports that a connection of the server has ended.
     pub fn note_end<X: Wait>(&self, rt: &X) {
-        let mut told = self.told.lock(rt);
-        told.ends = told.ends.wrapping_add(1);
-        drop(told);
+        let mut requests = self.requests.lock(rt);
+        requests.ends = requests.ends.wrapping_add(1);
+        drop(requests);
         self.changed.notify_all();
     }
 
     /// Returns how many connections have ended.
     pub fn ends<X: Wait>(&self, rt: &X) -> u64 {
-        self.told.lock(rt).ends
+        self.requests.lock(rt).ends
     }
 
     /// Waits until the limit has passed, another connection than the first `ends` has ended, or the server is asked to stop. Returns
     /// whether it was asked to stop.
     pub fn wait<X: Wait + Clock>(&self, rt: &X, ends: u64, limit: Duration) -> bool {
-        let told = self.told.lock(rt);
-        let (told, _) = self.changed.wait_timeout_while(rt, told, limit, |told| {
-            !told.stops && told.ends == ends
-        });
-        told.stops
+        let requests = self.requests.lock(rt);
+        let (requests, _) = self
+            .changed
+            .wait_timeout_while(rt, requests, limit, |requests| {
+                !requests.stops && requests.ends == ends
+            });
+        requests.stops
     }
 }
 
@@ -103,7 +107,7 @@ impl Stop {
 pub fn next_connection<X: Wait + Clock, L: Accepts, W: Watch>(
     rt: &X,
     listener: &L,
-    stop: &Stop,
+    stop: &StopSignal,
     watch: &W,
     interval: Duration,
 ) -> Option<PipeConnection> {

@@ -1,5 +1,5 @@
 //! The connections that a server has open.
-use crate::connection::Crew;
+use crate::connection::ThreadCount;
 use std::alloc::{AllocError, Global};
 use std::collections::BTreeMap;
 use std::sync::{Arc, Condvar, Mutex, Wait};
@@ -9,17 +9,17 @@ use ttrpc_transport::PipeConnection;
 #[derive(Drop)]
 pub struct OpenConnection {
     pub stream: Arc<PipeConnection, Global>,
-    pub crew: Arc<Crew, Global>,
+    pub thread_count: Arc<ThreadCount, Global>,
 }
 
 impl OpenConnection {
     // Ends the connection after its answers have left, or at once if it has no threads yet.
     fn finish<X: Wait>(&self, rt: &X) {
-        if self.crew.drain(rt) {
+        if self.thread_count.drain(rt) {
             let _ = self.stream.shutdown();
         } else {
             let _ = self.stream.close();
-            self.crew.end(rt);
+            self.thread_count.end(rt);
         }
     }
 }

@@ -12,9 +12,9 @@ pub mod settings;
 mod stopper;
 
 pub use connection::{
-    AtTurn, Backlog, Conn, Crew, MethodHandler, Relay, ServerHeld, ServerJobs, ServerRead,
-    ServerShared, ServerWrite, Serving, SharedHandler, SharedWatch, TtrpcContext, keep,
-    response_error_to_channel, send_response,
+    AtTurn, Backlog, Conn, MethodHandler, ServerHeld, ServerJobs, ServerLock, ServerRead,
+    ServerReadTurn, ServerWrite, SharedHandler, SharedWatch, ThreadCount, TtrpcContext,
+    WatchedHandlers, response_error_to_channel, run_connection, send_response,
 };
 pub use hook::SharedHook;
 pub use server::Server;

@@ -9,11 +9,11 @@ ghost use Rattle.ttrpc_transport.specs.Opened.{IsOpenedAt};
 ghost use Rattle.ttrpc_transport.specs.Sockets.{IsFault};
 ghost use Rattle.ttrpc_transport.specs.declared.address.domain.Domain.{Domain as ADomain};
 
-use crate::accept::{Stop, next_connection};
-use crate::connection::{Serving, SharedHandler, SharedWatch};
+use crate::accept::{StopSignal, next_connection};
+use crate::connection::{SharedHandler, SharedWatch, WatchedHandlers};
 use crate::connections::Connections;
 use crate::hook::SharedHook;
-use crate::service::{Service, serve};
+use crate::service::{ConnectionConfig, serve};
 use crate::settings::Settings;
 use crate::stopper::Stopper;
 use std::alloc::Global;
@@ -41,7 +41,7 @@ pub struct Server<R: Host, H: Drop, A: Drop, W: Drop = NoWatch> {
     hook: Arc<A, Global>,
     watch: Arc<W, Global>,
     connections: Arc<Connections, Global>,
-    stop: Arc<Stop, Global>,
+    stop: Arc<StopSignal, Global>,
     listening: Option<JoinHandle<()>>,
 }
 
@@ -79,7 +79,7 @@ impl<R: Host, H: Drop> Server<R, H, NoHook, NoWatch> {
             hook: Arc::new(alloc, NoHook {})?,
             watch: Arc::new(alloc, NoWatch {})?,
             connections: Arc::new(alloc, Connections::new(alloc))?,
-            stop: Arc::new(alloc, Stop::new())?,
+            stop: Arc::new(alloc, StopSignal::new())?,
             listening: None,
             rt,
         })
@@ -302,7 +302,7 @@ impl<R: Host, H: Drop, A: Drop, W: Drop> Server<R, H, A, W> {
     }
 
     /// Makes the service for each connection, of all parts that the server was built with.
-    fn service(&self) -> Result<Service<H, A, W>>
+    fn service(&self) -> Result<ConnectionConfig<H, A, W>>
         // the server's settings, its handlers, its hook and its watch
         ensures settings { IfOk result (λ service. service.settings ≡ self.now.settings) }
         ensures handlers { IfOk result
@@ -312,11 +312,11 @@ impl<R: Host, H: Drop, A: Drop, W: Drop> Server<R, H, A, W> {
         // An error means that memory was refused.
         ensures err { IfErr result (λ e. e ≡ NoMemory) }
     {
-        let serving = Serving {
+        let serving = WatchedHandlers {
             methods: Arc::try_clone(&self.methods)?,
             watch: Arc::try_clone(&self.watch)?,
         };
-        Ok(Service {
+        Ok(ConnectionConfig {
             serving,
             hook: Arc::try_clone(&self.hook)?,
             connections: Arc::try_clone(&self.connections)?,
@@ -403,7 +403,7 @@ where
 fn start_thread<R, O, I, H, A, W>(
     rt: &R,
     listener: Arc<PipeListener, Global>,
-    service: Arc<Service<H, A, W>, Global>,
+    service: Arc<ConnectionConfig<H, A, W>, Global>,
 ) -> Result<JoinHandle<()>>
 where
     R: Runtime,
@@ -425,7 +425,7 @@ where
 fn listen<R, O, I, H, A, W>(
     rt: &R,
     listener: &Arc<PipeListener, Global>,
-    service: &Arc<Service<H, A, W>, Global>,
+    service: &Arc<ConnectionConfig<H, A, W>, Global>,
 )
 where
     R: Runtime,

@@ -5,9 +5,10 @@ ghost use Rattle.ttrpc_proto.specs.declared.error.Error.TheVariants.{NoMemory};
 ghost use Rattle.ttrpc_sync_server.specs.Accepting.{IsCoreFor};
 ghost use Rattle.ttrpc_sync_server.specs.Built.{IsNotStarted};
 
-use crate::accept::Stop;
+use crate::accept::StopSignal;
 use crate::connection::{
-    Backlog, Conn, Crew, ServerShared, Serving, SharedHandler, SharedWatch, keep,
+    Backlog, Conn, ServerLock, SharedHandler, SharedWatch, ThreadCount, WatchedHandlers,
+    run_connection,
 };
 use crate::connections::{Connections, OpenConnection};
 use crate::hook::SharedHook;
@@ -28,15 +29,15 @@ use ttrpc_transport::{PipeConnection, Watch};
 
 /// The parts of a server that each connection uses.
 #[derive(Drop)]
-pub struct Service<H: Drop, A: Drop, W: Drop> {
-    pub serving: Serving<H, W>,
+pub struct ConnectionConfig<H: Drop, A: Drop, W: Drop> {
+    pub serving: WatchedHandlers<H, W>,
     pub hook: Arc<A, Global>,
     pub connections: Arc<Connections, Global>,
-    pub stop: Arc<Stop, Global>,
+    pub stop: Arc<StopSignal, Global>,
     pub settings: Settings,
 }
 
-impl<H: Drop, A: Drop, W: Drop> Service<H, A, W> {
+impl<H: Drop, A: Drop, W: Drop> ConnectionConfig<H, A, W> {
     /// Removes the connection of this number after it has ended. Its descriptor is free then.
     fn remove<R: Host>(&self, rt: &R, number: u64) {
         self.connections.remove(rt, number);
@@ -49,13 +50,13 @@ impl<H: Drop, A: Drop, W: Drop> Service<H, A, W> {
 struct Numbered {
     number: u64,
     stream: Arc<PipeConnection, Global>,
-    crew: Arc<Crew, Global>,
+    thread_count: Arc<ThreadCount, Global>,
 }
 
 /// Serves this connection, in threads of its own.
 pub fn serve<R, O, I, H, A, W>(
     rt: &R,
-    service: &Arc<Service<H, A, W>, Global>,
+    service: &Arc<ConnectionConfig<H, A, W>, Global>,
     stream: PipeConnection,
 ) -> Result<()>
 where
@@ -70,7 +71,7 @@ where
     let (mine, theirs) = (rt.clone()?, Arc::try_clone(service)?);
     let numbered = add(rt, &*service.connections, stream)?;
     let number = numbered.number;
-    match Builder::new().spawn(rt, move || attend(&mine, &theirs, numbered)) {
+    match Builder::new().spawn(rt, move || serve_connection(&mine, &theirs, numbered)) {
         Ok(_) => Ok(()),
         Err(error) => {
             service.remove(rt, number);
@@ -85,20 +86,24 @@ fn add<R: Host>(rt: &R, connections: &Connections, stream: PipeConnection) -> Re
 {
     let alloc = rt.alloc();
     let stream = Arc::new(alloc, stream)?;
-    let crew = Arc::new(alloc, Crew::new())?;
+    let thread_count = Arc::new(alloc, ThreadCount::new())?;
     let open = OpenConnection {
         stream: Arc::try_clone(&stream)?,
-        crew: Arc::try_clone(&crew)?,
+        thread_count: Arc::try_clone(&thread_count)?,
     };
     Ok(Numbered {
         number: connections.add(rt, open)?,
         stream,
-        crew,
+        thread_count,
     })
 }
 
 /// Serves this connection until it has ended.
-fn attend<R, O, I, H, A, W>(rt: &R, service: &Arc<Service<H, A, W>, Global>, numbered: Numbered)
+fn serve_connection<R, O, I, H, A, W>(
+    rt: &R,
+    service: &Arc<ConnectionConfig<H, A, W>, Global>,
+    numbered: Numbered,
+)
 where
     R: Runtime,
     O: SendOutbound,
@@ -110,20 +115,20 @@ where
     let Numbered {
         number,
         stream,
-        crew,
+        thread_count,
     } = numbered;
-    admit_and_keep(rt, service, &stream, crew);
+    admit_and_serve(rt, service, &stream, thread_count);
     let _ = stream.close();
     drop(stream);
     service.remove(rt, number);
 }
 
 /// Serves this connection if the hook accepts it and memory is found.
-fn admit_and_keep<R, O, I, H, A, W>(
+fn admit_and_serve<R, O, I, H, A, W>(
     rt: &R,
-    service: &Arc<Service<H, A, W>, Global>,
+    service: &Arc<ConnectionConfig<H, A, W>, Global>,
     stream: &Arc<PipeConnection, Global>,
-    crew: Arc<Crew, Global>,
+    thread_count: Arc<ThreadCount, Global>,
 )
 where
     R: Runtime,
@@ -143,8 +148,8 @@ where
             return;
         }
     };
-    match open(rt, service, stream, crew, output) {
-        Ok(conn) => keep(&conn, serving, &service.settings),
+    match open(rt, service, stream, thread_count, output) {
+        Ok(conn) => run_connection(&conn, serving, &service.settings),
         Err(error) => serving.watch.connection_dropped(&error),
     }
 }
@@ -152,9 +157,9 @@ where
 /// Opens a connection that its hook accepted, with the hook's output.
 fn open<R, O, I, H, A, W>(
     rt: &R,
-    service: &Service<H, A, W>,
+    service: &ConnectionConfig<H, A, W>,
     stream: &Arc<PipeConnection, Global>,
-    crew: Arc<Crew, Global>,
+    thread_count: Arc<ThreadCount, Global>,
     output: HookOutput<O, I>,
 ) -> Result<Arc<Conn<R, O, I>, Global>>
 where
@@ -175,9 +180,9 @@ where
     } = output;
     let core = core_of(alloc, &service.serving.methods, outbound, inbound)?;
     let settings = &service.settings;
-    let shared = ServerShared::new(core, pool_of(settings), backlog_of(settings));
+    let shared = ServerLock::new(core, pool_of(settings), backlog_of(settings));
     let link = Link::new(alloc, shared, Arc::try_clone(stream)?)?;
-    let conn = Conn::new(rt.clone()?, link, connection_data, crew)?;
+    let conn = Conn::new(rt.clone()?, link, connection_data, thread_count)?;
     Ok(Arc::new(alloc, conn)?)
 }
 

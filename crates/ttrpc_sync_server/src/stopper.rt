@@ -2,7 +2,7 @@
 ghost use Rattle.std.specs.Prelude.{◌≡◌, IfErr};
 ghost use Rattle.ttrpc_proto.specs.declared.error.Error.TheVariants.{NoMemory};
 
-use crate::accept::Stop;
+use crate::accept::StopSignal;
 use std::alloc::Global;
 use std::sync::Arc;
 use ttrpc_proto::Result;
@@ -12,11 +12,11 @@ use ttrpc_sync::Host;
 #[derive(Drop)]
 pub struct Stopper<R: Host> {
     rt: R,
-    stop: Arc<Stop, Global>,
+    stop: Arc<StopSignal, Global>,
 }
 
 impl<R: Host> Stopper<R> {
-    pub(crate) fn new(rt: &R, stop: &Arc<Stop, Global>) -> Result<Stopper<R>>
+    pub(crate) fn new(rt: &R, stop: &Arc<StopSignal, Global>) -> Result<Stopper<R>>
         ensures err { IfErr result (λ e. e ≡ NoMemory) }
     {
         Ok(Stopper {

@@ -5,18 +5,18 @@ use Rattle.ttrpc_world.proofs.Keeps.{Keeps}
 use Rattle.ttrpc_world.proofs.Numbers.{received}
 use Rattle.ttrpc_world.proofs.Timed.{called_back, expired_is, Makes}
 use Rattle.ttrpc_world.proofs.Serves.{one_less, passes_so}
-use Rattle.ttrpc_world.proofs.Words.{[], ActiveJob, all_at, all_less, Answer, ap, arith, asks_outcome, Bool, Call, call_at, CallEvent, ClientSide, Count, deadline_of, Deliver, Done, Ended, EndsOne, EndStream, Entry, eqb-true, Error, Event, false, Finish, Given, Halves, Handed, inl, inr, is_clean_event, is_clean_reply, is_some, IsOpen, Item, JobList, left_of, List, Lives, ltb-false, map, Named, nat_lt, Net, None, NoneWaits, Option, Outcome, Recv, Reply, Response, Result, rules, Server, ServerEnd, ServerSide, Settings, Some, StaysFound, Steps, subst, sym, Take, takes_bytes, takes_nothing, Tick, true, Waiting, ℕ, ◌∙◌, ◌∷◌, ◌≡◌, ◌≤◌}
+use Rattle.ttrpc_world.proofs.Words.{[], ActiveJob, all_at, all_less, Answer, ap, arith, asks_outcome, Bool, CallState, call_at, CallEvent, ClientSide, Count, deadline_of, Deliver, Done, Ended, EndsOne, EndStream, Entry, eqb-true, Error, Event, false, Finish, Given, Halves, Handed, inl, inr, is_clean_event, is_clean_reply, is_some, IsOpen, Item, JobList, left_of, List, Lives, ltb-false, map, Named, nat_lt, Net, None, NoneWaits, Option, Outcome, Recv, Reply, Response, Result, rules, Server, ServerEnd, ServerSide, Settings, Some, StaysFound, Steps, subst, sym, Take, takes_bytes, takes_nothing, Tick, true, Waiting, ℕ, ◌∙◌, ◌∷◌, ◌≡◌, ◌≤◌}
 
 pub none_taken : (k : ℕ) → nat_lt 0 k ≡ false → k ≡ 0
 none_taken k h = let le : k ≤ 0 = ltb-false 0 k h in omega (arith, le)
 
 -- asking leaves no outcome
-left_none : (failed : Bool) (e : Option Call) (o : Result Response Error) → left_of failed e ≡ Some (Ended o) → ⊥
+left_none : (failed : Bool) (e : Option CallState) (o : Result Response Error) → left_of failed e ≡ Some (Ended o) → ⊥
 left_none false (Some (Waiting x)) o h = cc
 left_none true (Some (Waiting x)) o h = cc
 left_none failed e o h = cc
 
-never_made : (k : ℕ) (o : Result Response Error) (moment : ℕ) (event : Event) (reply : Reply) → Makes (λ (e : Option Call). e ≡ Some (Ended o)) k moment event reply → ⊥
+never_made : (k : ℕ) (o : Result Response Error) (moment : ℕ) (event : Event) (reply : Reply) → Makes (λ (e : Option CallState). e ≡ Some (Ended o)) k moment event reply → ⊥
 never_made k o moment (CallEvent request) (Named id) made = let bad : Some (Waiting (deadline_of moment request.timeout_nano)) ≡ Some (Ended o) = made.1 in cc
 never_made k o moment event reply made = absurd made
 
@@ -25,7 +25,7 @@ module _ {CO CI SO SI : Type 0} (c : Halves CO CI) (s : Halves SO SI) (seals : B
   pub kept_before : (set : Settings) (f : ℕ → ℕ) (t : List Entry) (w : Net CO CI SO SI) (event : Event) (reply : Reply) (v : Net CO CI SO SI) (k : ℕ) (o : Result Response Error) → Keeps c s set f t w → IsOpen w → is_clean_event event ≡ true → is_clean_reply reply ≡ true
       → takes_bytes ClientSide event reply ≡ false → Steps c s seals w event reply v → call_at v.client.state k ≡ Some (Ended o) → call_at w.client.state k ≡ Some (Ended o)
   kept_before set f t w event reply v k o i u e r z p h =
-      elim (called_back c s seals (λ (x : Option Call). x ≡ Some (Ended o)) (λ failed x y. absurd (left_none failed x o y)) (λ now x. expired_is now x (Ended o) (λ same. cc)) w event reply v k e r
+      elim (called_back c s seals (λ (x : Option CallState). x ≡ Some (Ended o)) (λ failed x y. absurd (left_none failed x o y)) (λ now x. expired_is now x (Ended o) (λ same. cc)) w event reply v k e r
       (λ n j is count q g.
       let none : takes_bytes ClientSide (Deliver ClientSide n) (Count j) ≡ false = subst (λ (y : Reply). takes_bytes ClientSide (Deliver ClientSide n) y ≡ false) count (subst (λ (x : Event). takes_bytes ClientSide x reply ≡ false) is z) in
       sym (ap (λ x. call_at x.0.state k) (idle c s seals set f ClientSide t w v n j i u (none_taken j none) q)) ∙ g) p h) [

@@ -5,7 +5,7 @@ use Rattle.ttrpc_world.proofs.Numbers.{asked_more, Between, counts, items_more, 
 use Rattle.ttrpc_world.proofs.OneWay.{goes_on, joins}
 use Rattle.ttrpc_world.proofs.Flights.{data_brings, IsData, IsRequestFlight, sends_data, sends_request, SendsFlight}
 use Rattle.ttrpc_world.proofs.Throws.{AreSingle, back_stays, nothing_thrown, PartsOf, some_thrown, Stays, Thrown}
-use Rattle.ttrpc_world.proofs.Words.{[], act_of, all_joined, ap, arith, asked, asks_here, AsyncKind, begins_here, Birth, Bool, box_down, ByCall, ByOpen, call_at, CallEvent, CancelledDuringWrite, Client, ClientCore, ClientEnd, ClientKind, closed_error, Connection, data_thing, deadline_of, DeadlineDuringWrite, Done, DropCall, DropReceiver, drops_here, DropSender, DropsReceiver, DropsSender, due_at, elsewhere, Entry, eqb-true, Error, Event, expires_here, Failure, false, first_act, first_flow, flags_of, Flow, flow_of, Flying, Forgot, Given, given, GoesOn, Halves, has_response, heard, HeardDown, hears_here, here_at, id_of, if◌then◌else◌, inl, inr, is_some, IsBegun, IsOdd, IsOwned, IsPlainFailure, IsPut, IsRequest, IsStarted, Item, last_id, Later, List, Named, nat_eq, Net, None, one_request, only_if, OpenEvent, opening_flags, OpensStream, Option, Outbox, Outcome, parcels, Passes, Place, pushed_other, pushed_own, Recv, refl, Reply, Request, request_of, Requests, Response, Result, said, Sender, SenderClosed, sends_here, SendsOn, Settings, silent, Some, stays_as_it_is, Stream, stream_at, stream_within, StreamReceives, subst, sym, SyncKind, taken_back, takes_back, TakesOutcome, Thing, thrown_here, throws, told, true, unasked, unchanged, unheard, unheard_here, unsendable, unsendable_error, unsent_here, untold, waits, wants, with_client, with_entry, with_sender, ℕ, ◌%◌, ◌++◌, ◌+◌, ◌<◌, ◌^◌, ◌∙◌, ◌∷◌, ◌≡◌, ◌≢◌, ◌≤◌, ◌⊎◌}
+use Rattle.ttrpc_world.proofs.Words.{[], act_of, all_joined, ap, arith, asked, asks_here, AsyncKind, begins_here, Birth, Bool, box_down, ByCall, ByOpen, call_at, CallEvent, CancelledDuringWrite, Client, ClientCore, ClientEnd, ClientKind, closed_error, Connection, data_thing, deadline_of, DeadlineDuringWrite, Done, DropCall, DropReceiver, drops_here, DropSender, DropsReceiver, DropsSender, due_at, elsewhere, Entry, eqb-true, Error, Event, expires_here, Failure, false, first_act, first_flow, flags_of, Flow, flow_of, Flying, Forgot, Given, given, GoesOn, Halves, has_response, heard, HeardDown, hears_here, here_at, id_of, if◌then◌else◌, inl, inr, is_some, IsBegun, IsOdd, IsOwned, IsPlainFailure, IsPut, IsRequest, IsStarted, Item, last_id, Later, List, Named, nat_eq, Net, None, one_request, only_if, OpenEvent, opening_flags, OpensStream, Option, Outbox, Outcome, parcels, Passes, Place, pushed_other, pushed_own, Recv, refl, Reply, Request, request_of, Requests, Response, Result, said, Sender, SenderClosed, sends_here, SendsOn, Settings, silent, Some, stays_as_it_is, StreamState, stream_at, stream_within, StreamReceives, subst, sym, SyncKind, taken_back, takes_back, TakesOutcome, MailboxEntry, thrown_here, throws, told, true, unasked, unchanged, unheard, unheard_here, unsendable, unsendable_error, unsent_here, untold, waits, wants, with_client, with_entry, with_sender, ℕ, ◌%◌, ◌++◌, ◌+◌, ◌<◌, ◌^◌, ◌∙◌, ◌∷◌, ◌≡◌, ◌≢◌, ◌≤◌, ◌⊎◌}
 
 -- dropping takes a request back only where requests are thrown away, and where the call waits
 back_only : (failed may waiting : Bool) → (if failed then false else if may then waiting else false) ≡ true → (may ≡ true) × (waiting ≡ true)
@@ -28,12 +28,12 @@ closed_for : (wants : Bool) → (if wants then closed_error SenderClosed else So
 closed_for true e = cc
 closed_for false e = cc
 
-pub closed_sends : (st : Option Stream) → unsendable (with_sender SenderClosed st) ≡ None → ⊥
+pub closed_sends : (st : Option StreamState) → unsendable (with_sender SenderClosed st) ≡ None → ⊥
 closed_sends None e = cc
 closed_sends (Some s) e = closed_for s.streaming_client e
 
 -- the sender isn't what the client receives by
-sender_box : (sender : Sender) (st : Option Stream) → (box_down (with_sender sender st) ≡ box_down st) × (wants (with_sender sender st) ≡ wants st)
+sender_box : (sender : Sender) (st : Option StreamState) → (box_down (with_sender sender st) ≡ box_down st) × (wants (with_sender sender st) ≡ wants st)
 sender_box sender None = (refl, refl)
 sender_box sender (Some s) = (refl, refl)
 
@@ -121,7 +121,7 @@ module _ {CO CI SO SI : Type 0} (c : Halves CO CI) (s : Halves SO SI) (seals : B
       (ap (λ (x : ClientCore CO CI). x.connection.decoder) p.same) (ap (λ (x : ClientCore CO CI). x.connection.inbound) p.same) (λ _. p.alive)
 
   -- Data are sent on a stream, which bring this.
-  pub keeps_send : (w : Net CO CI SO SI) (event : Event) (reply : Reply) (id flags : ℕ) (plain : List ℕ) (sender : Sender) (ticket : ℕ) (v : Net CO CI SO SI) (put : Flow) (thing : Thing) → Kept trace w → flags < 2 ^ 8 → SendsOn c.out w.client id flags plain sender ticket v.client
+  pub keeps_send : (w : Net CO CI SO SI) (event : Event) (reply : Reply) (id flags : ℕ) (plain : List ℕ) (sender : Sender) (ticket : ℕ) (v : Net CO CI SO SI) (put : Flow) (thing : MailboxEntry) → Kept trace w → flags < 2 ^ 8 → SendsOn c.out w.client id flags plain sender ticket v.client
       → ((k : ℕ) → (act_of f k event reply ≡ []) × (flow_of f k event reply ≡ only_if (nat_eq id k) put)) → IsPut put thing → data_thing id flags plain ≡ thing → GoesOn thing (with_sender sender (stream_at w.client.state id)) → Kept (with_entry trace event reply) (with_client w v.client)
   keeps_send w event reply id flags plain sender ticket v put thing i low p says is_put brings on =
       let x = v.client in
@@ -142,7 +142,7 @@ module _ {CO CI SO SI : Type 0} (c : Halves CO CI) (s : Halves SO SI) (seals : B
       (subst (λ (n : ℕ). Numbers f (counts w.server.state.jobs) (i.up ++ r.y ∷ []) n) (sym next) (items_more f (counts w.server.state.jobs) i.up r.y w.client.state.next (rw r.is.item.type_ refl) i.numbers))
       (ap (λ (y : ClientCore CO CI). y.connection.decoder) p.same) (ap (λ (y : ClientCore CO CI). y.connection.inbound) p.same) (λ _. p.alive)
     where
-      unsendable_none : (st : Option Stream) → st ≡ None → unsendable st ≡ None → ⊥
+      unsendable_none : (st : Option StreamState) → st ≡ None → unsendable st ≡ None → ⊥
       unsendable_none st none e = let bad : unsendable None ≡ None = ap unsendable (sym none) ∙ e in cc
 
   -- ---- what is kept of calls and streams changes
@@ -191,7 +191,7 @@ module _ {CO CI SO SI : Type 0} (c : Halves CO CI) (s : Halves SO SI) (seals : B
   -- What is kept of one stream changes, and no other id hears of it.
   keeps_stream : (w : Net CO CI SO SI) (event : Event) (reply : Reply) (id : ℕ) (x : ClientCore CO CI) → (i : Kept trace w) → {this : ClientCore CO CI} → x ≡ this → this.connection ≡ w.client.connection → this.state.next ≡ w.client.state.next
       → ((k : ℕ) → call_at this.state k ≡ call_at w.client.state k) → ((k : ℕ) → k ≢ id → stream_at x.state k ≡ stream_at w.client.state k)
-      → ((k : ℕ) → act_of f k event reply ≡ []) → ((k : ℕ) → id ≢ k → said (flow_of f k) (with_entry trace event reply) ≡ said (flow_of f k) trace) → {flow : List Flow} {st : Option Stream}
+      → ((k : ℕ) → act_of f k event reply ≡ []) → ((k : ℕ) → id ≢ k → said (flow_of f k) (with_entry trace event reply) ≡ said (flow_of f k) trace) → {flow : List Flow} {st : Option StreamState}
       → Place (around set (has_response w) w.client.state.next) id (record (here_at f trace i.up i.down w.server.state.jobs.list w.client.state id) { flows = flow; stream = st })
       → said (flow_of f id) (with_entry trace event reply) ≡ flow → stream_at x.state id ≡ st → Kept (with_entry trace event reply) (with_client w x)
   keeps_stream w event reply id x i same connection was_next was_called others quiet unheard_by here flow stream =

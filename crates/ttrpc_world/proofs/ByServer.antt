@@ -8,7 +8,7 @@ use Rattle.ttrpc_world.proofs.Flights.{behind_other, behind_own, flight_as, Give
 use Rattle.ttrpc_world.proofs.Jobs.{all_due, aside_plain, deaf, gone_at, gone_others, is_at, job_is, mailed, not_here, too_soon, untouched}
 use Rattle.ttrpc_world.proofs.Serves.{expired_so}
 use Rattle.ttrpc_pair.proofs.Words.{unheard as unheard_of}
-use Rattle.ttrpc_world.proofs.Words.{[], Act, act_of, ActiveJob, all_at, all_in_front, AllByRecursion, Answer, Answered, answered_work, Answers, answers_here, AnswersBy, AnswersError, ap, append-nil, append_assoc, arith, asked_by, AsyncRules, at_stays, between_own, Birth, Bool, Born, call_at, changed_at, codes, Done, Drain, drained, DropReceiver, elsewhere, EndedDown, ending_thing, ends_here, EndsOne, EndsStream, EndStream, Entry, eq-eqb, Err, Error, errs_up_here, Event, ExpireAll, Failure, false, Finish, Finishes, first_act, flow_of, Flying, given, Goes, Halves, Handed, HandlerError, Hands, has_response, HasNone, HasOkStatus, heard, HeardUp, hears_up_here, here_at, id_of, if◌then◌else◌, inl, inr, is_clean_answer, is_due, is_stream, IsAnswer, IsAnsweredBy, IsDown, IsEnd, IsErrorResponse, IsNever, IsPlain, IsPlainFailure, IsResponse, IsSentAs, IsSentBack, IsSentFor, Item, Job, job_at, job_within, JobReceives, jobs_at, last_id, last_thing, Later, List, list_any, Mail, mapped_at, may_be_error, nat_eq, Net, never_down, None, Ok, only_if, Option, Origin, Others, Outbox, parcels, Place, pushed_other, pushed_own, Ran, reaches, ReceivesBy, ReceivesFrom, Recv, refl, request_of, Respond, Responds, responds_here, RespondsTo, Response, Result, Rules, running_of, safe_limit, Send, sends_down_here, SendsAll, SendsItem, Sent, SentDown, Server, ServerCore, ServerEnd, ServerPasses, Settings, silent, Some, some_of, stream_id_of, StreamBody, subst, sym, SyncRules, Take, takes_here, Thing, ThingEnd, ThingItem, Ticket, timeout_response, told, told_by, told_plain, true, unchanged, under_both, unheard, unheard_up_here, untold, Waiting, was_made, with_entry, with_mail, with_server, without_receiver, ℕ, ◌++◌, ◌∙◌, ◌∷◌, ◌≡◌, ◌≤◌, list_any-append, or_left, or_right}
+use Rattle.ttrpc_world.proofs.Words.{[], Act, act_of, ActiveJob, all_at, all_in_front, AllByRecursion, Answer, Answered, answered_work, Answers, answers_here, AnswersBy, AnswersError, ap, append-nil, append_assoc, arith, asked_by, AsyncRules, at_stays, between_own, Birth, Bool, Born, call_at, changed_at, codes, Done, Drain, drained, DropReceiver, elsewhere, EndedDown, ending_thing, ends_here, EndsOne, EndsStream, EndStream, Entry, eq-eqb, Err, Error, errs_up_here, Event, ExpireAll, Failure, false, Finish, Finishes, first_act, flow_of, Flying, given, Goes, Halves, Handed, HandlerError, Hands, has_response, HasNone, HasOkStatus, heard, HeardUp, hears_up_here, here_at, id_of, if◌then◌else◌, inl, inr, is_clean_answer, is_due, is_stream, IsAnswer, IsAnsweredBy, IsDown, IsEnd, IsErrorResponse, IsNever, IsPlain, IsPlainFailure, IsResponse, IsSentAs, IsSentBack, IsSentFor, Item, Job, job_at, job_within, JobReceives, jobs_at, last_id, last_thing, Later, List, list_any, Mail, mapped_at, may_be_error, nat_eq, Net, never_down, None, Ok, only_if, Option, Origin, Others, Outbox, parcels, Place, pushed_other, pushed_own, Ran, reaches, ReceivesBy, ReceivesFrom, Recv, refl, request_of, Respond, Responds, responds_here, RespondsTo, Response, Result, Rules, running_of, safe_limit, Send, sends_down_here, SendsAll, SendsItem, Sent, SentDown, Server, ServerCore, ServerEnd, ServerPasses, Settings, silent, Some, some_of, stream_id_of, StreamBody, subst, sym, SyncRules, Take, takes_here, MailboxEntry, ThingEnd, ThingItem, Ticket, timeout_response, told, told_by, told_plain, true, unchanged, under_both, unheard, unheard_up_here, untold, Waiting, was_made, with_entry, with_mail, with_server, without_receiver, ℕ, ◌++◌, ◌∙◌, ◌∷◌, ◌≡◌, ◌≤◌, list_any-append, or_left, or_right}
 
 module _ {CO CI SO SI : Type 0} (c : Halves CO CI) (s : Halves SO SI) (seals : Bool) (set : Settings) (f : ℕ → ℕ) (trace : List Entry) where
   abbrev Kept : List Entry → Net CO CI SO SI → Type 0
@@ -67,7 +67,7 @@ module _ {CO CI SO SI : Type 0} (c : Halves CO CI) (s : Halves SO SI) (seals : B
   IsSet w = (w.server.state.rules ≡ set.rules) × (safe_limit s.out w.server.connection.outbox.half ≡ set.limit) × (w.server.state.services ≡ set.services)
 
   -- what it puts in
-  abbrev ending : Result (Option Response) Error → Thing
+  abbrev ending : Result (Option Response) Error → MailboxEntry
   ending result = ending_thing set.rules set.limit result
 
   -- what is sent for it, if anything is: if it ends a call well, it is the answer; and it brings what was put in
@@ -144,7 +144,7 @@ module _ {CO CI SO SI : Type 0} (c : Halves CO CI) (s : Halves SO SI) (seals : B
       let done = answered_work b j kind (Ok (Some response)) in
       let given = Some (told_by w.server.state.rules (safe_limit s.out w.server.connection.outbox.half) response) in
       of_flight w x j kind (Born b) done (Ok (Some response)) given (λ y gives one. (sym unary ∙ one, sent_back w response (Ok response) ruled refl y gives))
-      (subst (λ (t : Thing). SendsFlight s.out w.server.connection.outbox (IsAnswering k (Born b) done t given) x.connection.outbox) (same_ending w response ruled)
+      (subst (λ (t : MailboxEntry). SendsFlight s.out w.server.connection.outbox (IsAnswering k (Born b) done t given) x.connection.outbox) (same_ending w response ruled)
       (sends_response s.out w.server.connection.outbox w.server.state.rules k response sent x.connection.outbox (Born b) done within is (λ ok. is_answer b j kind response unary) responds sends))
 
   -- or one to an error
@@ -239,7 +239,7 @@ module _ {CO CI SO SI : Type 0} (c : Halves CO CI) (s : Halves SO SI) (seals : B
       (λ ok. is_answer running.b j false response unary) p.does.responds p.does.sends in
       server_changes w t x (w.responded ++ id ∷ []) (i.down ++ r.y ∷ []) i
       (at_one (PlaceOf w had2 t i.up (i.down ++ r.y ∷ []) x.state.jobs.list) k
-      (elsewhere (unchanged (around set had2 w.client.state.next) k) (responds_here j response r.y running (later k) (list_any-append (λ m. nat_eq m j.id) w.responded (id ∷ []) ∙ or_right _ _ (or_left _ _ (eq-eqb id j.id (sym at.is_job)))) unary r.is.down (subst (λ (t : Thing). IsSentAs t r.y) (same_ending w response ruled) r.is.goes) (sym ruled.0 ∙ p.rules) (λ one. (refl, sent_back w response (Ok response) ruled refl r.y r.is.gives)))
+      (elsewhere (unchanged (around set had2 w.client.state.next) k) (responds_here j response r.y running (later k) (list_any-append (λ m. nat_eq m j.id) w.responded (id ∷ []) ∙ or_right _ _ (or_left _ _ (eq-eqb id j.id (sym at.is_job)))) unary r.is.down (subst (λ (t : MailboxEntry). IsSentAs t r.y) (same_ending w response ruled) r.is.goes) (sym ruled.0 ∙ p.rules) (λ one. (refl, sent_back w response (Ok response) ruled refl r.y r.is.gives)))
       (heard (act_of f k) k (f id) trace (Respond id response) Done (Answered false (Ok (Some response))) refl a.stream) (heard (flow_of f k) k (f id) trace (Respond id response) Done (EndedDown (Ok (Some response))) refl a.stream)
       refl (is k) (pushed_own id_of k r.y i.down r.is.down.stream) refl refl)
       (λ n e. elsewhere (later n) (i.stories n) (unheard (act_of f n) n (f id) trace (Respond id response) Done (Answered false (Ok (Some response))) refl (λ h. e (sym a.stream ∙ h)))

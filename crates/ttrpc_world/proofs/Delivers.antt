@@ -4,7 +4,7 @@ use Rattle.ttrpc_world.proofs.OneWay.{joins, OneWay}
 use Rattle.ttrpc_world.proofs.Payloads.{ask_row, IsItemRow, IsRefusal, IsRowOf, item_row, data_leave, request_moves, seen_up}
 use Rattle.ttrpc_pair.specs.Types.{IsAbove}
 use Rattle.ttrpc_world.proofs.Flights.{behind_other, behind_own, sends_refusal}
-use Rattle.ttrpc_world.proofs.Words.{[], Act, act_of, ActiveJob, acts, ActsOn, all_behind, AllByRecursion, ap, append-nil, append_assoc, arith, Around, arrives_here, asked_by, Asking, AsyncRules, Birth, Bool, Born, box_up, brought_by, ByCall, ByOpen, Call, call_at, calling, calls, calls_work, case_of, case_row, cases_eq, changed_under, Client, comes_of, Connection, deadline_in, deadline_of, Does, down_of, elsewhere, Entry, eq-eqb, Event, false, first_act, flags_of, flow_of, Flying, Halves, has_method, Here, here_at, id_of, Ignore, inl, inlet_of, inr, is_stream, IsAsked, IsHeldBy, IsItem, IsJob, IsMade, IsNever, IsNoMethod, IsPassed, IsPatient, IsTurned, jobs_at, Landing, lands_here, LandsOn, LandsOnce, last_id, Later, List, MakeJob, MakeStream, MESSAGE_TYPE_REQUEST, MessageHeader, nat_eq, new_job, Open, Opened, Option, OutboundTransform, Outbox, parcels, passes_here, Pipe, Place, pushed_other, pushed_own, PutIn, puts_here, refers_here, refl, Reply, Request, request_of, Response, Row, row_leaves, Rules, rules, Scene, SendResponse, SendsAll, SendsOwnAnswer, Sent, Server, serving, Settings, Some, stream_at, stream_body, stream_id_of, subst, sym, SyncRules, TidyOf, true, unary_body, unchanged, under_other, under_own, under_stays, untaken, Waiting, with_mail, without_payload, ℕ, ◌%◌, ◌++◌, ◌+◌, ◌∙◌, ◌∷◌, ◌≡◌, ◌≢◌, ◌≤◌, ◌⊎◌, Case, newest_after, with_newest}
+use Rattle.ttrpc_world.proofs.Words.{[], Act, act_of, ActiveJob, acts, ActsOn, all_behind, AllByRecursion, ap, append-nil, append_assoc, arith, Around, arrives_here, asked_by, Asking, AsyncRules, Birth, Bool, Born, box_up, brought_by, ByCall, ByOpen, CallState, call_at, calling, calls, calls_work, case_of, case_row, cases_eq, changed_under, Client, comes_of, Connection, deadline_in, deadline_of, Does, down_of, elsewhere, Entry, eq-eqb, Event, false, first_act, flags_of, flow_of, Flying, Halves, has_method, Here, here_at, id_of, Ignore, inl, id_state_of, inr, is_stream, IsAsked, IsHeldBy, IsItem, IsJob, IsMade, IsNever, IsNoMethod, IsPassed, IsPatient, IsTurned, jobs_at, CallResult, lands_here, LandsOn, LandsOnce, last_id, Later, List, MakeJob, MakeStream, MESSAGE_TYPE_REQUEST, MessageHeader, nat_eq, new_job, Open, Opened, Option, OutboundTransform, Outbox, parcels, passes_here, Pipe, Place, pushed_other, pushed_own, PutIn, puts_here, refers_here, refl, Reply, Request, request_of, Response, Row, row_leaves, Rules, rules, Scene, SendResponse, SendsAll, SendsOwnAnswer, Sent, Server, serving, Settings, Some, stream_at, stream_body, stream_id_of, subst, sym, SyncRules, TidyOf, true, unary_body, unchanged, under_other, under_own, under_stays, untaken, Waiting, with_mail, without_payload, ℕ, ◌%◌, ◌++◌, ◌+◌, ◌∙◌, ◌∷◌, ◌≡◌, ◌≢◌, ◌≤◌, ◌⊎◌, Case, newest_after, with_newest}
 
 abbrev pub around : Settings → (ℕ → Bool) → ℕ → Around
 around set had next = record { set = set; had = had; next = next }
@@ -71,7 +71,7 @@ abbrev pub IsTimely : Settings → (ℕ → ℕ) → List Entry → Client → �
 IsTimely set f trace client now = set.clean → (k : ℕ) (q : Request) (d : Option ℕ) → call_at client k ≡ Some (Waiting d) → calls (acts f k trace) ≡ q ∷ [] → IsPatient d (deadline_of now q.timeout_nano)
 
 -- so the job that is made of it is due no earlier
-held_by : (set : Settings) (b : Birth) (call : Option Call) (job : ActiveJob) (now : ℕ) → ((q : Request) (d : Option ℕ) → b ≡ ByCall q → call ≡ Some (Waiting d) → IsPatient d (deadline_of now q.timeout_nano)) → job.body ≡ unary_body set.rules now (request_of b) → IsHeldBy set b call job
+held_by : (set : Settings) (b : Birth) (call : Option CallState) (job : ActiveJob) (now : ℕ) → ((q : Request) (d : Option ℕ) → b ≡ ByCall q → call ≡ Some (Waiting d) → IsPatient d (deadline_of now q.timeout_nano)) → job.body ≡ unary_body set.rules now (request_of b) → IsHeldBy set b call job
 held_by set (ByOpen q up down) call job now timely is = tt
 held_by set (ByCall q) call job now timely is = λ method. record {
   unary = ap is_stream is ∙ unary_kind set.rules now q;
@@ -84,12 +84,12 @@ held_by set (ByCall q) call job now timely is = λ method. record {
     unary_patient AsyncRules d p = p
 
 -- a request that names no method makes no such job
-no_held : (set : Settings) (b : Birth) (call : Option Call) (job : ActiveJob) → has_method set.services (request_of b).service (request_of b).method ≡ false → IsHeldBy set b call job
+no_held : (set : Settings) (b : Birth) (call : Option CallState) (job : ActiveJob) → has_method set.services (request_of b).service (request_of b).method ≡ false → IsHeldBy set b call job
 no_held set (ByCall q) call job none = λ method. let bad : true ≡ false = sym method ∙ none in cc
 no_held set (ByOpen q up down) call job none = tt
 
 -- and one that is refused under an odd id names none
-refused_call : (set : Settings) (b : Birth) (x : Flying) (a : List Act) (d : List Flying) (e : Option Call) → TidyOf set (Born b) (Asking x) a d e → (nat_eq (x.frame.message.header.stream_id % 2) 0 ≡ false → has_method set.services (request_of b).service (request_of b).method ≡ false) → IsNoMethod set b
+refused_call : (set : Settings) (b : Birth) (x : Flying) (a : List Act) (d : List Flying) (e : Option CallState) → TidyOf set (Born b) (Asking x) a d e → (nat_eq (x.frame.message.header.stream_id % 2) 0 ≡ false → has_method set.services (request_of b).service (request_of b).method ≡ false) → IsNoMethod set b
 refused_call set (ByCall q) x a d e t none = λ method. let bad : true ≡ false = sym method ∙ none (t method).1 in cc
 refused_call set (ByOpen q up down) x a d e t none = tt
 
@@ -215,7 +215,7 @@ module _ {CO CI SO SI : Type 0} (c : Halves CO CI) (s : Halves SO SI) (set : Set
   -- and of data
   by_item_row : (row : Row) (newest : Option ℕ) (now : ℕ) (x : Flying) (rest down : List Flying) (old new : Scene Server SO SI) (sent : List Sent) → Stories set had f trace (x ∷ rest) down old.state.jobs.list client
       → Numbers f (counts old.state.jobs) (x ∷ rest) client.next → SendsAll s.out old.outbox sent new.outbox
-      → Does s.out row (with_newest old.state newest) old.outbox.half x.frame.message.header now sent new.state → Moves x old.state.jobs.newest newest → (a : HerePassed x rest down old.state.jobs.list) → old.state.rules ≡ set.rules → IsItemRow x.frame.message.header.stream_id old.state.rules (inlet_of (jobs_at old.state.jobs.list x.frame.message.header.stream_id)) x.plain row
+      → Does s.out row (with_newest old.state newest) old.outbox.half x.frame.message.header now sent new.state → Moves x old.state.jobs.newest newest → (a : HerePassed x rest down old.state.jobs.list) → old.state.rules ≡ set.rules → IsItemRow x.frame.message.header.stream_id old.state.rules (id_state_of (jobs_at old.state.jobs.list x.frame.message.header.stream_id)) x.plain row
       → ComesUp c s set had f trace rest down client old new
   by_item_row (PutIn payload) newest now x rest down old new sent stories numbers sends does moves a ruled is = puts newest payload now x rest down old new sent stories numbers sends does moves a is
   by_item_row (SendResponse response) newest now x rest down old new sent stories numbers sends does moves a ruled is =
@@ -227,7 +227,7 @@ module _ {CO CI SO SI : Type 0} (c : Halves CO CI) (s : Halves SO SI) (set : Set
 
   -- the row of a frame that arrives as it was sent
   abbrev case_at : Server → Flying → Case
-  case_at t x = case_of t.rules x.frame.message.header (Opened x.plain) t.jobs.newest (inlet_of (jobs_at t.jobs.list x.frame.message.header.stream_id))
+  case_at t x = case_of t.rules x.frame.message.header (Opened x.plain) t.jobs.newest (id_state_of (jobs_at t.jobs.list x.frame.message.header.stream_id))
 
   abbrev row_at : Server → Flying → Row
   row_at t x = case_row t.rules t.services x.frame.message.header (case_at t x)
@@ -243,11 +243,11 @@ module _ {CO CI SO SI : Type 0} (c : Halves CO CI) (s : Halves SO SI) (set : Set
       let none : jobs_at t.jobs.list h.stream_id ≡ [] = a.known.server.jobs_is in
       rw (sent.plain, none, ruled, ← served) (ask_row set.rules t.services h (request_of a.b) t.jobs.newest sent.known sent.short below sent.type_)
 
-  passed_row_is : (x : Flying) (rest down : List Flying) (t : Server) → (a : HerePassed x rest down t.jobs.list) → IsItemRow x.frame.message.header.stream_id t.rules (inlet_of (jobs_at t.jobs.list x.frame.message.header.stream_id)) x.plain (row_at t x)
+  passed_row_is : (x : Flying) (rest down : List Flying) (t : Server) → (a : HerePassed x rest down t.jobs.list) → IsItemRow x.frame.message.header.stream_id t.rules (id_state_of (jobs_at t.jobs.list x.frame.message.header.stream_id)) x.plain (row_at t x)
   passed_row_is x rest down t a =
       let k : ℕ = x.frame.message.header.stream_id in
       let item : IsItem k x = (subst (λ (xs : List Flying). AllByRecursion (IsItem k) xs) a.items a.known.server.are_items).0 in
-      item_row t.rules t.services x.frame.message.header x.plain t.jobs.newest (inlet_of (jobs_at t.jobs.list k)) item.short item.type_
+      item_row t.rules t.services x.frame.message.header x.plain t.jobs.newest (id_state_of (jobs_at t.jobs.list k)) item.short item.type_
 
   -- what becomes of the newest request
   asked_moves : (x : Flying) (rest down : List Flying) (t : Server) → HereUp x rest down t.jobs.list → Moves x t.jobs.newest (newest_at t x)
@@ -262,7 +262,7 @@ module _ {CO CI SO SI : Type 0} (c : Halves CO CI) (s : Halves SO SI) (set : Set
   passed_moves x rest down t a =
       let k : ℕ = x.frame.message.header.stream_id in
       let item : IsItem k x = (subst (λ (xs : List Flying). AllByRecursion (IsItem k) xs) a.items a.known.server.are_items).0 in
-      inl (data_leave t.rules x.frame.message.header x.plain t.jobs.newest (inlet_of (jobs_at t.jobs.list k)) item.short item.type_)
+      inl (data_leave t.rules x.frame.message.header x.plain t.jobs.newest (id_state_of (jobs_at t.jobs.list k)) item.short item.type_)
 
   -- one frame
   comes_up : (now : ℕ) (x : Flying) (rest down : List Flying) (old new : Scene Server SO SI) (sent : List Sent) → old.state.rules ≡ set.rules → old.state.services ≡ set.services → IsTimely set f trace client now
@@ -319,7 +319,7 @@ module _ {CO CI : Type 0} (c : Halves CO CI) (set : Settings) (had : ℕ → Boo
       let next : new.next ≡ old.next = ap (λ (s : Client). s.next) p.same in
       let later : (i : ℕ) → Later (around set had old.next) (around set had new.next) i = λ i. next_up set had old.next new.next i (omega (arith, next)) in
       at_one (λ (n : ℕ). Place (around set had new.next) n (here_at f trace up rest jobs new n)) k
-      (elsewhere (later k) (lands_here {e = call_at new k} {st = stream_at new k} x (parcels k rest) (stories k) was (subst (λ (l : Landing). LandsOn l (call_at old k) (call_at new k)) told.lands p.lands.own) p.reaches.own) refl refl refl refl refl refl refl)
+      (elsewhere (later k) (lands_here {e = call_at new k} {st = stream_at new k} x (parcels k rest) (stories k) was (subst (λ (l : CallResult). LandsOn l (call_at old k) (call_at new k)) told.lands p.lands.own) p.reaches.own) refl refl refl refl refl refl refl)
       (λ i e. elsewhere (later i) (stories i) refl refl refl refl (sym (under_other id_of i x rest e)) (p.lands.others i (λ same. e (sym same))) (p.reaches.others i (λ same. e (sym same))))
 
   pub feeds_down : (now : ℕ) (front up rest : List Flying) (jobs : List ActiveJob) (old new : Scene Client CO CI)

@@ -1,6 +1,6 @@
 -- The flights that requests, data and responses are sent as, and what they bring.
 use Rattle.ttrpc_world.proofs.Payloads.{data_read, fitted_is, IsAnswerOf, IsRefusal, may_refuse, MaySend, response_read}
-use Rattle.ttrpc_world.proofs.Words.{[], Act, AllByRecursion, ap, append-nil, append_assoc, arith, associated, Bool, by_status, close_flags, closing_news, data_news, data_thing, Err, Error, false, fitted, Flying, Follows, Gives, HasOkStatus, id_of, inl, inr, IsAnswer, IsCloseFrame, IsDown, IsItem, IsNever, IsOwned, IsRequest, IsResponse, IsSent, IsSentAs, IsSound, IsTurned, landing_of, last_id, last_thing, length, List, malformed_text, MESSAGE_LENGTH_MAX, MESSAGE_TYPE_REQUEST, MESSAGE_TYPE_RESPONSE, News, news_of, None, Ok, Opened, Option, Origin, Others, OutboundTransform, Outbox, parcels, plain_status, pushed_other, pushed_own, Queued, refl, Request, request_bytes, Responds, Response, response_bytes, Result, Rules, safe_limit, SendsAll, SendsData, SendsOne, Sent, Some, status_cases, subst, sym, Thing, thing_down, thing_of, thing_up, ThingEnd, ThingItem, ThingLast, told_by, true, with_frame, with_payload, ℕ, ◌++◌, ◌<◌, ◌^◌, ◌∙◌, ◌∷◌, ◌≡◌, ◌≢◌, ◌≤◌, ◌⊎◌}
+use Rattle.ttrpc_world.proofs.Words.{[], Act, AllByRecursion, ap, append-nil, append_assoc, arith, associated, Bool, by_status, close_flags, closing_delivery, data_delivery, data_thing, Err, Error, false, fitted, Flying, Follows, Gives, HasOkStatus, id_of, inl, inr, IsAnswer, IsCloseFrame, IsDown, IsItem, IsNever, IsOwned, IsRequest, IsResponse, IsSent, IsSentAs, IsSound, IsTurned, call_result_of, last_id, last_thing, length, List, malformed_text, MESSAGE_LENGTH_MAX, MESSAGE_TYPE_REQUEST, MESSAGE_TYPE_RESPONSE, StreamDelivery, delivery_of, None, Ok, Opened, Option, Origin, Others, OutboundTransform, Outbox, parcels, plain_status, pushed_other, pushed_own, Queued, refl, Request, request_bytes, Responds, Response, response_bytes, Result, Rules, safe_limit, SendsAll, SendsData, SendsOne, Sent, Some, status_cases, subst, sym, MailboxEntry, thing_down, thing_of, thing_up, ThingEnd, ThingItem, ThingLast, told_by, true, with_frame, with_payload, ℕ, ◌++◌, ◌<◌, ◌^◌, ◌∙◌, ◌∷◌, ◌≡◌, ◌≢◌, ◌≤◌, ◌⊎◌}
 
 -- A frame was sent: it is a flight such as this.
 pub record SendsFlight {O : Type 0} (out : OutboundTransform O) (old : Outbox O) (is_such : Flying → Type 0) (new : Outbox O) : Type 0 where
@@ -66,16 +66,16 @@ pub item_never : {k : ℕ} {y : Flying} → IsItem k y → IsNever k y
 item_never {k} {y} i = record { stream = i.stream; error = Others (malformed_text y.frame.message.header); lands = (data_read y.frame.message.header y.plain i.short i.type_).0 }
 
 -- and what it brings a stream there, unless that was opened without items
-data_goes : {k flags : ℕ} {plain : List ℕ} {y : Flying} (x : Thing) → Follows (x ∷ []) (data_thing k flags plain ∷ []) → IsData k flags plain y → IsSentAs x y
+data_goes : {k flags : ℕ} {plain : List ℕ} {y : Flying} (x : MailboxEntry) → Follows (x ∷ []) (data_thing k flags plain ∷ []) → IsData k flags plain y → IsSentAs x y
 data_goes {y = y} x follows d wanted =
-    subst (λ (n : News). Follows (x ∷ []) (thing_of n ∷ [])) (sym ((data_read y.frame.message.header y.plain d.item.short d.item.type_).1 wanted)) (by wanted)
+    subst (λ (n : StreamDelivery). Follows (x ∷ []) (thing_of n ∷ [])) (sym ((data_read y.frame.message.header y.plain d.item.short d.item.type_).1 wanted)) (by wanted)
   where
-    by : (b : Bool) → Follows (x ∷ []) (thing_of (data_news b y.frame.message.header y.plain) ∷ [])
-    by true = subst (λ (t : Thing). Follows (x ∷ []) (t ∷ [])) (sym (data_brings d)) follows
+    by : (b : Bool) → Follows (x ∷ []) (thing_of (data_delivery b y.frame.message.header y.plain) ∷ [])
+    by true = subst (λ (t : MailboxEntry). Follows (x ∷ []) (t ∷ [])) (sym (data_brings d)) follows
     by false = λ m. refl
 
 -- a frame that goes down with what was put in, and ends no call well
-pub record IsGoing (k : ℕ) (x : Thing) (y : Flying) : Type 0 where
+pub record IsGoing (k : ℕ) (x : MailboxEntry) (y : Flying) : Type 0 where
   pub never : IsNever k y
   pub goes : IsSentAs x y
 
@@ -121,21 +121,21 @@ sends_last out old rs k r sent new within p q =
     (record { plain = refl; stream = g.stream_id; type_ = g.type_; short = omega (arith, p.fits) })
 
 -- what it gives a call, and brings a stream
-lands_as : {k : ℕ} {r : Response} {y : Flying} → IsResponse r → IsResponseFlight k r y → landing_of y.frame.message.header (Opened y.plain) ≡ Gives (by_status r.status r)
+lands_as : {k : ℕ} {r : Response} {y : Flying} → IsResponse r → IsResponseFlight k r y → call_result_of y.frame.message.header (Opened y.plain) ≡ Gives (by_status r.status r)
 lands_as {r = r} {y = y} is f = rw (f.plain) (response_read y.frame.message.header r is f.short f.type_).0
 
-brings_as : {k : ℕ} {r : Response} {y : Flying} → IsResponse r → IsResponseFlight k r y → (wanted : Bool) → thing_down wanted y ≡ thing_of (closing_news (by_status r.status r))
+brings_as : {k : ℕ} {r : Response} {y : Flying} → IsResponse r → IsResponseFlight k r y → (wanted : Bool) → thing_down wanted y ≡ thing_of (closing_delivery (by_status r.status r))
 brings_as {r = r} {y = y} is f wanted =
-    let news : news_of wanted y.frame.message.header (Opened y.plain) ≡ closing_news (by_status r.status r) = rw (f.plain) ((response_read y.frame.message.header r is f.short f.type_).1 wanted) in
-    ap thing_of news
+    let delivery : delivery_of wanted y.frame.message.header (Opened y.plain) ≡ closing_delivery (by_status r.status r) = rw (f.plain) ((response_read y.frame.message.header r is f.short f.type_).1 wanted) in
+    ap thing_of delivery
 
 -- where it is said what a frame gives a call, it gives that
 abbrev pub GivesSo : Option (Result Response Error) → Flying → Type 0
 GivesSo None y = Unit {0}
-GivesSo (Some outcome) y = landing_of y.frame.message.header (Opened y.plain) ≡ Gives outcome
+GivesSo (Some outcome) y = call_result_of y.frame.message.header (Opened y.plain) ≡ Gives outcome
 
 -- A frame of an answer: if it is an outcome that is Ok, it is the answer; and it brings what was put in.
-pub record IsAnswering (k : ℕ) (o : Origin) (done : List Act) (x : Thing) (given : Option (Result Response Error)) (y : Flying) : Type 0 where
+pub record IsAnswering (k : ℕ) (o : Origin) (done : List Act) (x : MailboxEntry) (given : Option (Result Response Error)) (y : Flying) : Type 0 where
   pub down : IsDown k true o done y
   pub goes : IsSentAs x y
   pub gives : GivesSo given y
@@ -150,10 +150,10 @@ well last o done answers x e (inr h) = let bad : Err h.0 ≡ Ok x = sym h.1 ∙ 
 
 -- it is the answer itself, or a refusal
 last_follows : (r last : Response) → (last ≡ r) ⊎ IsRefusal last → (HasOkStatus last.status × (by_status last.status last ≡ Ok last)) ⊎ ((e : Error) × (by_status last.status last ≡ Err e))
-    → Follows (last_thing (by_status last.status last) r ∷ []) (thing_of (closing_news (by_status last.status last)) ∷ [])
-last_follows r last (inl same) (inl h) = subst (λ (o : Result Response Error). Follows (last_thing o r ∷ []) (thing_of (closing_news o) ∷ [])) (sym h.1) (ap (λ (x : Response). ThingLast x.payload ∷ []) (sym same))
+    → Follows (last_thing (by_status last.status last) r ∷ []) (thing_of (closing_delivery (by_status last.status last)) ∷ [])
+last_follows r last (inl same) (inl h) = subst (λ (o : Result Response Error). Follows (last_thing o r ∷ []) (thing_of (closing_delivery o) ∷ [])) (sym h.1) (ap (λ (x : Response). ThingLast x.payload ∷ []) (sym same))
 last_follows r last (inr refusal) (inl h) = absurd (refusal.never_ok h.0)
-last_follows r last other (inr h) = subst (λ (o : Result Response Error). Follows (last_thing o r ∷ []) (thing_of (closing_news o) ∷ [])) (sym h.1) (plain_status last.status last h.0 h.1)
+last_follows r last other (inr h) = subst (λ (o : Result Response Error). Follows (last_thing o r ∷ []) (thing_of (closing_delivery o) ∷ [])) (sym h.1) (plain_status last.status last h.0 h.1)
 
 -- A response is such a flight.
 pub sends_response : {O : Type 0} (out : OutboundTransform O) (old : Outbox O) (rs : Rules) (k : ℕ) (r : Response) (sent : List Sent) (new : Outbox O) (o : Origin) (done : List Act) → k ≤ last_id → IsResponse r → IsAnswerOf o done r
@@ -166,7 +166,7 @@ sends_response out old rs k r sent new o done within is answer p q =
     flight_as (IsResponseFlight k last) (IsAnswering k o done (last_thing (told_by rs limit r) r) (Some (told_by rs limit r)))
     (λ y f. record {
       down = record { stream = f.stream; outcome = by_status last.status last; lands = lands_as m.is f; answer = λ x e. well last o done m.answers x e (status_cases last.status last) };
-      goes = λ wanted. subst (λ (t : Thing). Follows (last_thing (told_by rs limit r) r ∷ []) (t ∷ [])) (sym (brings_as m.is f wanted)) (last_follows r last kept (status_cases last.status last));
+      goes = λ wanted. subst (λ (t : MailboxEntry). Follows (last_thing (told_by rs limit r) r ∷ []) (t ∷ [])) (sym (brings_as m.is f wanted)) (last_follows r last kept (status_cases last.status last));
       gives = lands_as m.is f;
     }) (sends_last out old rs k r sent new within p q)
 
@@ -181,7 +181,7 @@ refusing {k} {y} last m f =
     let h : (e : Error) × (by_status last.status last ≡ Err e) = elim (status_cases last.status last) [ inl ok ↦ absurd (m.never_ok ok.0) | inr fails ↦ fails ] in
     record {
       never = record { stream = f.stream; error = h.0; lands = lands_as m.is f ∙ ap (λ (o : Result Response Error). Gives o) h.1 };
-      turned = λ wanted rest way. subst (λ (t : Thing). Follows rest (t ∷ way)) (sym (brings_as m.is f wanted ∙ ap (λ (o : Result Response Error). thing_of (closing_news o)) h.1)) (plain_status last.status last h.0 h.1);
+      turned = λ wanted rest way. subst (λ (t : MailboxEntry). Follows rest (t ∷ way)) (sym (brings_as m.is f wanted ∙ ap (λ (o : Result Response Error). thing_of (closing_delivery o)) h.1)) (plain_status last.status last h.0 h.1);
       gives = lands_as m.is f;
     }
 

@@ -1,5 +1,5 @@
 -- A server's jobs: around a job, and what is told beside any.
-use Rattle.ttrpc_world.proofs.Words.{[], ActiveJob, all_at, AllByRecursion, ap, arith, astray, at_stays, between_other, between_own, Body, Bool, box_of, Call, cases_Bool, changed_at, deadline_in, Dropped, due_jobs, EndsOne, eqb-true, Error, false, if◌then◌else◌, inl, inr, is_due, is_stream, IsDeaf, IsPatient, IsPlain, IsTaken, IsTooSoon, job_at, jobs_at, leb-false, leb-true, List, Mail, mail_in, mail_of, MessageHeader, nat_eq, nat_le, None, on_mail, Option, past_error, reaches, refl, Some, stream_id_of, StreamBody, subst, sym, true, UnaryBody, under_both, under_other, unknown_stream, Waiting, with_mail, without_receiver, ℕ, ◌++◌, ◌∙◌, ◌∷◌, ◌≡◌, ◌≢◌, ◌⊎◌}
+use Rattle.ttrpc_world.proofs.Words.{[], ActiveJob, all_at, AllByRecursion, ap, arith, astray, at_stays, between_other, between_own, Body, Bool, box_of, CallState, cases_Bool, changed_at, deadline_in, Dropped, due_jobs, EndsOne, eqb-true, Error, false, if◌then◌else◌, inl, inr, is_due, is_stream, IsDeaf, IsPatient, IsPlain, IsTaken, IsTooSoon, job_at, jobs_at, leb-false, leb-true, List, Mail, mail_in, mail_of, MessageHeader, nat_eq, nat_le, None, on_mail, Option, past_error, reaches, refl, Some, stream_id_of, StreamBody, subst, sym, true, UnaryBody, under_both, under_other, unknown_stream, Waiting, with_mail, without_receiver, ℕ, ◌++◌, ◌∙◌, ◌∷◌, ◌≡◌, ◌≢◌, ◌⊎◌}
 use Rattle.ttrpc_world.proofs.Numbers.{AreRight}
 
 -- ---- jobs around a job
@@ -88,7 +88,7 @@ all_due now (j ∷ js) = by (is_due now j) refl (all_due now js)
     by false e later = later
 
 -- A job that is due has an earlier deadline than a call that waits and isn't.
-pub too_soon : (now : ℕ) (call : Option Call) (j : ActiveJob) → is_due now j ≡ true → ((d : Option ℕ) → call ≡ Some (Waiting d) → reaches now d ≡ false) → IsTooSoon call j
+pub too_soon : (now : ℕ) (call : Option CallState) (j : ActiveJob) → is_due now j ≡ true → ((d : Option ℕ) → call ≡ Some (Waiting d) → reaches now d ≡ false) → IsTooSoon call j
 too_soon now call j due undue = by (deadline_in j.body) refl due
   where
     by : (at : Option ℕ) → deadline_in j.body ≡ at → reaches now at ≡ true → IsTooSoon call j

@@ -4,9 +4,9 @@ use Rattle.ttrpc_world.proofs.Constants.{stepped}
 use Rattle.ttrpc_world.proofs.Numbers.{received}
 use Rattle.ttrpc_world.proofs.Serves.{acts_so, one_less, passes_so}
 use Rattle.ttrpc_server.specs.Protocol.{case_in}
-use Rattle.ttrpc_server.specs.declared.rows.Asked.TheVariants.{NoPath}
+use Rattle.ttrpc_server.specs.declared.rows.RequestKind.TheVariants.{NoPath}
 use Rattle.ttrpc_pair.proofs.Words.{brought_by, changed_under, under_stays}
-use Rattle.ttrpc_world.proofs.Words.{[], ActiveJob, ActsAll, all_at, all_changed, all_joined, all_less, AllByRecursion, Answer, ap, arrives, asked_row, AskedCall, Asks, AsyncRules, at_stays, Bool, Case, case_row, changed_at, Chat, Count, Deliver, Does, Done, DropReceiver, EndsOne, EndStream, Entry, Event, false, Finish, Halves, Handed, has_method, has_service, has_stream, header_of_frame, if◌then◌else◌, inl, inr, Incoming, is_stream, IsFresh, Item, JobList, List, map, MakeJob, MakeStream, MessageHeader, Net, NoMethod, None, NoService, Option, OutboundTransform, PutIn, Recv, refl, Refused, Reply, Request, request_row, row_leaves, Row, Rules, rules, Runs, Scene, scene, Sent, Server, ServerCore, ServerEnd, ServerSide, serving, Services, Some, StaysFound, Steps, subst, sym, SyncRules, Take, Tick, true, unary_body, without_payload, without_receiver, ℕ, ◌∙◌, ◌∷◌, ◌≡◌}
+use Rattle.ttrpc_world.proofs.Words.{[], ActiveJob, ActsAll, all_at, all_changed, all_joined, all_less, AllByRecursion, Answer, ap, arrives, request_kind_row, AskedCall, Asks, AsyncRules, at_stays, Bool, Case, case_row, changed_at, Chat, Count, Deliver, Does, Done, DropReceiver, EndsOne, EndStream, Entry, Event, false, Finish, Halves, Handed, has_method, has_service, has_stream, header_of_frame, if◌then◌else◌, inl, inr, Incoming, is_stream, IsFresh, Item, JobList, List, map, MakeJob, MakeStream, MessageHeader, Net, NoMethod, None, NoService, Option, OutboundTransform, PutIn, Recv, refl, Refused, Reply, Request, request_row, row_leaves, Row, Rules, rules, Runs, Scene, scene, Sent, Server, ServerCore, ServerEnd, ServerSide, serving, Services, Some, StaysFound, Steps, subst, sym, SyncRules, Take, Tick, true, unary_body, without_payload, without_receiver, ℕ, ◌∙◌, ◌∷◌, ◌≡◌}
 
 -- a job of a request is no stream's
 unary : (rules : Rules) (now : ℕ) (request : Request) → is_stream (unary_body rules now request) ≡ false
@@ -37,12 +37,12 @@ module _ (services : Services) where
   right_request rules None = tt
   right_request SyncRules (Some q) = by (has_method services q.service q.method)
     where
-      by : (method : Bool) → IsRight (asked_row q (if method then AskedCall else NoPath))
+      by : (method : Bool) → IsRight (request_kind_row q (if method then AskedCall else NoPath))
       by true = tt
       by false = tt
   right_request AsyncRules (Some q) = by (has_method services q.service q.method) refl (has_stream services q.service q.method) (has_service services q.service)
     where
-      by : (method : Bool) → has_method services q.service q.method ≡ method → (stream service : Bool) → IsRight (asked_row q (if method then AskedCall else if stream then Chat else if service then NoMethod else NoService))
+      by : (method : Bool) → has_method services q.service q.method ≡ method → (stream service : Bool) → IsRight (request_kind_row q (if method then AskedCall else if stream then Chat else if service then NoMethod else NoService))
       by true e stream service = tt
       by false e true service = e
       by false e false true = tt

@@ -1,7 +1,7 @@
 -- What is sent reads back, what a core makes of it then, and the flights that it is sent as.
 use Rattle.std.proofs.lemmas.Bool.{lt-ltb}
 use Rattle.ttrpc_pair.specs.Types.{IsAbove}
-use Rattle.ttrpc_world.proofs.Words.{[], Absent, Act, and_parts, arith, asked_row, AskedCall, Asks, AsyncRules, Bool, Busy, by_status, case_of, case_row, Chat, closing_news, codes, data_case, data_news, decimal, empty_request, empty_response, Err, even_id_text, EvenId, false, fit_to_message, fitted, Full, Gives, has_method, has_service, has_stream, HasOkStatus, if◌then◌else◌, Ignore, inactive_text, Inlet, INVALID_ARGUMENT, IsAnswer, IsAscii, IsAscii-decimal, IsRequest, IsResponse, IsUtf8, IsUtf8-append, IsUtf8-from_ascii, landing_of, le-ltb, length, limit_text, List, ltb-true, MakeJob, MakeStream, malformed_text, MESSAGE_LENGTH_MAX, MESSAGE_TYPE_DATA, MESSAGE_TYPE_REQUEST, MESSAGE_TYPE_RESPONSE, MessageHeader, method_text, nat_eq, nat_lt, news_of, NoMethod, NoService, Opened, Origin, other_of, Others, oversize_text, path_text, PutIn, reads_back, refl, Request, request_again, request_bytes, request_fields, request_fits, request_row, request_step, Response, response_again, response_bytes, response_fields, response_fits, response_size, response_step, Row, Rules, rules, SendResponse, service_text, Services, Some, status_response, subst, suc, sym, SyncRules, Taking, timeout_response, true, UNIMPLEMENTED, UNKNOWN, zero, ℕ, ◌%◌, ◌&&◌, ◌++◌, ◌-◌, ◌<◌, ◌^◌, ◌∙◌, ◌∷◌, ◌≡◌, ◌≤◌, None, Option, newer_case, newest_after, Case, inl, inr, ap, ◌⊎◌}
+use Rattle.ttrpc_world.proofs.Words.{[], Absent, Act, and_parts, arith, request_kind_row, AskedCall, Asks, AsyncRules, Bool, Busy, by_status, case_of, case_row, Chat, closing_delivery, codes, data_case, data_delivery, decimal, empty_request, empty_response, Err, even_id_text, EvenId, false, fit_to_message, fitted, Full, Gives, has_method, has_service, has_stream, HasOkStatus, if◌then◌else◌, Ignore, inactive_text, StreamIdState, INVALID_ARGUMENT, IsAnswer, IsAscii, IsAscii-decimal, IsRequest, IsResponse, IsUtf8, IsUtf8-append, IsUtf8-from_ascii, call_result_of, le-ltb, length, limit_text, List, ltb-true, MakeJob, MakeStream, malformed_text, MESSAGE_LENGTH_MAX, MESSAGE_TYPE_DATA, MESSAGE_TYPE_REQUEST, MESSAGE_TYPE_RESPONSE, MessageHeader, method_text, nat_eq, nat_lt, delivery_of, NoMethod, NoService, Opened, Origin, other_of, Others, oversize_text, path_text, PutIn, reads_back, refl, Request, request_again, request_bytes, request_fields, request_fits, request_row, request_step, Response, response_again, response_bytes, response_fields, response_fits, response_size, response_step, Row, Rules, rules, SendResponse, service_text, Services, Some, status_response, subst, suc, sym, SyncRules, Taking, timeout_response, true, UNIMPLEMENTED, UNKNOWN, zero, ℕ, ◌%◌, ◌&&◌, ◌++◌, ◌-◌, ◌<◌, ◌^◌, ◌∙◌, ◌∷◌, ◌≡◌, ◌≤◌, None, Option, newer_case, newest_after, Case, inl, inr, ap, ◌⊎◌}
 
 -- ---- texts
 
@@ -80,22 +80,22 @@ IsAskRow method k r q (SendResponse response) = IsRefusal response × (nat_eq (k
 IsAskRow method k r q row = ⊥
 
 -- nobody takes data: under async rules and an odd id somebody would
-abbrev pub IsUntaken : ℕ → Rules → Inlet → Type 0
-IsUntaken k r inlet = r ≡ AsyncRules → nat_eq (k % 2) 0 ≡ false → inlet ≡ Taking → ⊥
+abbrev pub IsUntaken : ℕ → Rules → StreamIdState → Type 0
+IsUntaken k r id_state = r ≡ AsyncRules → nat_eq (k % 2) 0 ≡ false → id_state ≡ Taking → ⊥
 
 -- Data are put in, refused, or passed over.
-abbrev pub IsItemRow : ℕ → Rules → Inlet → List ℕ → Row → Type 0
-IsItemRow k r inlet plain (PutIn payload) = payload ≡ plain
-IsItemRow k r inlet plain (SendResponse response) = IsRefusal response × IsUntaken k r inlet
-IsItemRow k r inlet plain Ignore = IsUntaken k r inlet
-IsItemRow k r inlet plain row = ⊥
+abbrev pub IsItemRow : ℕ → Rules → StreamIdState → List ℕ → Row → Type 0
+IsItemRow k r id_state plain (PutIn payload) = payload ≡ plain
+IsItemRow k r id_state plain (SendResponse response) = IsRefusal response × IsUntaken k r id_state
+IsItemRow k r id_state plain Ignore = IsUntaken k r id_state
+IsItemRow k r id_state plain row = ⊥
 
-other_asked : (method : Bool) → method ≡ false → (k : ℕ) → nat_eq (k % 2) 0 ≡ false → (q : Request) → IsRequest q → (chat service : Bool) → IsAskRow method k AsyncRules q (asked_row q (if chat then Chat else if service then NoMethod else NoService))
+other_asked : (method : Bool) → method ≡ false → (k : ℕ) → nat_eq (k % 2) 0 ≡ false → (q : Request) → IsRequest q → (chat service : Bool) → IsAskRow method k AsyncRules q (request_kind_row q (if chat then Chat else if service then NoMethod else NoService))
 other_asked method none k odd q is true service = (refl, refl, odd, none)
 other_asked method none k odd q is false true = (method_refusal q is, λ o. none)
 other_asked method none k odd q is false false = (refused (service_text q.service) (IsUtf8-append q.service (codes " service does not exist") is.service (plain_text (codes " service does not exist") refl)), λ o. none)
 
-other_is : (method : Bool) → method ≡ false → (k : ℕ) (r : Rules) → (r ≡ AsyncRules → nat_eq (k % 2) 0 ≡ false) → (services : Services) (q : Request) → IsRequest q → IsAskRow method k r q (asked_row q (other_of r services q))
+other_is : (method : Bool) → method ≡ false → (k : ℕ) (r : Rules) → (r ≡ AsyncRules → nat_eq (k % 2) 0 ≡ false) → (services : Services) (q : Request) → IsRequest q → IsAskRow method k r q (request_kind_row q (other_of r services q))
 other_is method none k SyncRules odd services q is = (refused (path_text q.service q.method) (path_is_utf8 q is), λ o. none)
 other_is method none k AsyncRules odd services q is = other_asked method none k (odd refl) q is (has_stream services q.service q.method) (has_service services q.service)
 
@@ -106,7 +106,7 @@ IsRowOf services k r q row = IsAskRow (has_method services q.service q.method) k
 asked_is : (k : ℕ) (r : Rules) → (r ≡ AsyncRules → nat_eq (k % 2) 0 ≡ false) → (services : Services) (q : Request) → IsRequest q → IsRowOf services k r q (request_row r services (Some q))
 asked_is k r odd services q is = by (has_method services q.service q.method) refl
   where
-    by : (b : Bool) → has_method services q.service q.method ≡ b → IsRowOf services k r q (asked_row q (if b then AskedCall else other_of r services q))
+    by : (b : Bool) → has_method services q.service q.method ≡ b → IsRowOf services k r q (request_kind_row q (if b then AskedCall else other_of r services q))
     by true e = refl
     by false e = other_is (has_method services q.service q.method) e k r odd services q is
 
@@ -140,33 +140,33 @@ ask_row AsyncRules services h q newest is short below type_ =
     let within : nat_lt MESSAGE_LENGTH_MAX (length (request_bytes q)) ≡ false = le-ltb _ _ short in
     rw (within, type_) (even_or_asked services h q newest is short below (nat_eq (h.stream_id % 2) 0) refl)
 
-even_or_item : (services : Services) (h : MessageHeader) (plain : List ℕ) (inlet : Inlet) (even : Bool) → nat_eq (h.stream_id % 2) 0 ≡ even
-    → IsItemRow h.stream_id AsyncRules inlet plain (case_row AsyncRules services h (if even then EvenId else data_case plain inlet))
-even_or_item services h plain inlet true e = (even_refusal, λ a odd t. let bad : true ≡ false = sym e ∙ odd in cc)
+even_or_item : (services : Services) (h : MessageHeader) (plain : List ℕ) (id_state : StreamIdState) (even : Bool) → nat_eq (h.stream_id % 2) 0 ≡ even
+    → IsItemRow h.stream_id AsyncRules id_state plain (case_row AsyncRules services h (if even then EvenId else data_case plain id_state))
+even_or_item services h plain id_state true e = (even_refusal, λ a odd t. let bad : true ≡ false = sym e ∙ odd in cc)
 even_or_item services h plain Absent false e = (inactive_refusal, λ a odd t. cc)
 even_or_item services h plain Busy false e = (inactive_refusal, λ a odd t. cc)
 even_or_item services h plain Taking false e = refl
 even_or_item services h plain Full false e = λ a odd t. cc
 
-pub item_row : (r : Rules) (services : Services) (h : MessageHeader) (plain : List ℕ) (newest : Option ℕ) (inlet : Inlet) → length plain ≤ MESSAGE_LENGTH_MAX → h.type_ ≡ MESSAGE_TYPE_DATA
-    → IsItemRow h.stream_id r inlet plain (case_row r services h (case_of r h (Opened plain) newest inlet))
-item_row SyncRules services h plain newest inlet short type_ =
+pub item_row : (r : Rules) (services : Services) (h : MessageHeader) (plain : List ℕ) (newest : Option ℕ) (id_state : StreamIdState) → length plain ≤ MESSAGE_LENGTH_MAX → h.type_ ≡ MESSAGE_TYPE_DATA
+    → IsItemRow h.stream_id r id_state plain (case_row r services h (case_of r h (Opened plain) newest id_state))
+item_row SyncRules services h plain newest id_state short type_ =
     let within : nat_lt MESSAGE_LENGTH_MAX (length plain) ≡ false = le-ltb _ _ short in
     rw (within, type_) (λ a odd t. let bad : SyncRules ≡ AsyncRules = a in cc)
-item_row AsyncRules services h plain newest inlet short type_ =
+item_row AsyncRules services h plain newest id_state short type_ =
     let within : nat_lt MESSAGE_LENGTH_MAX (length plain) ≡ false = le-ltb _ _ short in
-    rw (within, type_) (even_or_item services h plain inlet (nat_eq (h.stream_id % 2) 0) refl)
+    rw (within, type_) (even_or_item services h plain id_state (nat_eq (h.stream_id % 2) 0) refl)
 
 -- and leave the newest request
-pub data_leave : (r : Rules) (h : MessageHeader) (plain : List ℕ) (newest : Option ℕ) (inlet : Inlet) → length plain ≤ MESSAGE_LENGTH_MAX → h.type_ ≡ MESSAGE_TYPE_DATA
-    → newest_after r h.stream_id (case_of r h (Opened plain) newest inlet) newest ≡ newest
-data_leave SyncRules h plain newest inlet short type_ = refl
-data_leave AsyncRules h plain newest inlet short type_ =
+pub data_leave : (r : Rules) (h : MessageHeader) (plain : List ℕ) (newest : Option ℕ) (id_state : StreamIdState) → length plain ≤ MESSAGE_LENGTH_MAX → h.type_ ≡ MESSAGE_TYPE_DATA
+    → newest_after r h.stream_id (case_of r h (Opened plain) newest id_state) newest ≡ newest
+data_leave SyncRules h plain newest id_state short type_ = refl
+data_leave AsyncRules h plain newest id_state short type_ =
     let within : nat_lt MESSAGE_LENGTH_MAX (length plain) ≡ false = le-ltb _ _ short in
-    rw (within, type_) (by (nat_eq (h.stream_id % 2) 0) inlet)
+    rw (within, type_) (by (nat_eq (h.stream_id % 2) 0) id_state)
   where
-    by : (even : Bool) (inlet : Inlet) → newest_after AsyncRules h.stream_id (if even then EvenId else data_case plain inlet) newest ≡ newest
-    by true inlet = refl
+    by : (even : Bool) (id_state : StreamIdState) → newest_after AsyncRules h.stream_id (if even then EvenId else data_case plain id_state) newest ≡ newest
+    by true id_state = refl
     by false Absent = refl
     by false Busy = refl
     by false Taking = refl
@@ -182,7 +182,7 @@ request_moves AsyncRules k case newest = inl refl
 
 -- Of a response it makes its outcome, and brings a stream what closes it.
 pub response_read : (h : MessageHeader) (r : Response) → IsResponse r → length (response_bytes r) ≤ MESSAGE_LENGTH_MAX → h.type_ ≡ MESSAGE_TYPE_RESPONSE
-    → (landing_of h (Opened (response_bytes r)) ≡ Gives (by_status r.status r)) × ((wanted : Bool) → news_of wanted h (Opened (response_bytes r)) ≡ closing_news (by_status r.status r))
+    → (call_result_of h (Opened (response_bytes r)) ≡ Gives (by_status r.status r)) × ((wanted : Bool) → delivery_of wanted h (Opened (response_bytes r)) ≡ closing_delivery (by_status r.status r))
 response_read h r is short type_ =
     let within : nat_lt MESSAGE_LENGTH_MAX (length (response_bytes r)) ≡ false = le-ltb _ _ short in
     let fits : length (response_bytes r) < 2 ^ 64 - 1 = omega (arith, short) in
@@ -191,7 +191,7 @@ response_read h r is short type_ =
 
 -- Of data it makes an error, and brings a stream them.
 pub data_read : (h : MessageHeader) (plain : List ℕ) → length plain ≤ MESSAGE_LENGTH_MAX → h.type_ ≡ MESSAGE_TYPE_DATA
-    → (landing_of h (Opened plain) ≡ Gives (Err (Others (malformed_text h)))) × ((wanted : Bool) → news_of wanted h (Opened plain) ≡ data_news wanted h plain)
+    → (call_result_of h (Opened plain) ≡ Gives (Err (Others (malformed_text h)))) × ((wanted : Bool) → delivery_of wanted h (Opened plain) ≡ data_delivery wanted h plain)
 data_read h plain short type_ =
     let within : nat_lt MESSAGE_LENGTH_MAX (length plain) ≡ false = le-ltb _ _ short in
     let other : nat_eq h.type_ MESSAGE_TYPE_RESPONSE ≡ false = rw type_ refl in

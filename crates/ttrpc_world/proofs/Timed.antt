@@ -2,10 +2,10 @@
 -- nothing at the client.
 use Rattle.ttrpc_world.proofs.Keeps.{Keeps}
 use Rattle.ttrpc_world.proofs.Serves.{acts_so}
-use Rattle.ttrpc_world.proofs.Words.{[], Act, act_of, acts, ActsAll, ap, append_assoc, arith, arrives, AtClient, Bool, Born, ByCall, ByOpen, Call, call_at, Called, CallEvent, calling, calls, calls_append, cases_eq, Client, ClientCore, ClientSide, Count, deadline_of, Deliver, Done, due_at, Ended, Entry, eq-eqb, Event, Expired, expired_at, Failure, false, Given, Halves, if◌then◌else◌, Incoming, inl, inr, is_call_due, is_clean_event, is_clean_reply, is_none_of, is_some, IsFresh, IsInTime, IsPatient, Landing, landing_of, LandsOn, left_of, List, moment_after, moment_behind, Named, negsuc, Net, None, number_of, only_if, only_one, Option, or_parts, Origin, Outcome, outcomes, Passes, pos, reaches, reaches_at, reaches_one, refl, Refused, Reply, Request, rules, said_then, Scene, scene, ServerSide, Settings, Some, Steps, Stream, subst, suc, sym, Tick, true, Unborn, Waiting, with_entry, zero, ℕ, ℤ, ◌&&◌, ◌++◌, ◌+◌, ◌∙◌, ◌∷◌, ◌≡◌, ◌≢◌, ◌≤◌, ◌⊎◌}
+use Rattle.ttrpc_world.proofs.Words.{[], Act, act_of, acts, ActsAll, ap, append_assoc, arith, arrives, AtClient, Bool, Born, ByCall, ByOpen, CallState, call_at, Called, CallEvent, calling, calls, calls_append, cases_eq, Client, ClientCore, ClientSide, Count, deadline_of, Deliver, Done, due_at, Ended, Entry, eq-eqb, Event, Expired, expired_at, Failure, false, Given, Halves, if◌then◌else◌, Incoming, inl, inr, is_call_due, is_clean_event, is_clean_reply, is_none_of, is_some, IsFresh, IsInTime, IsPatient, CallResult, call_result_of, LandsOn, left_of, List, moment_after, moment_behind, Named, negsuc, Net, None, number_of, only_if, only_one, Option, or_parts, Origin, Outcome, outcomes, Passes, pos, reaches, reaches_at, reaches_one, refl, Refused, Reply, Request, rules, said_then, Scene, scene, ServerSide, Settings, Some, Steps, StreamState, subst, suc, sym, Tick, true, Unborn, Waiting, with_entry, zero, ℕ, ℤ, ◌&&◌, ◌++◌, ◌+◌, ◌∙◌, ◌∷◌, ◌≡◌, ◌≢◌, ◌≤◌, ◌⊎◌}
 
 -- the call of this id is made at such a moment, and this is right of it
-abbrev pub Makes : (Option Call → Type 0) → ℕ → ℕ → Event → Reply → Type 0
+abbrev pub Makes : (Option CallState → Type 0) → ℕ → ℕ → Event → Reply → Type 0
 Makes P k moment (CallEvent request) (Named id) = (id ≡ k) × P (Some (Waiting (deadline_of moment request.timeout_nano)))
 Makes P k moment event reply = ⊥
 
@@ -55,21 +55,21 @@ in_time f front now moment k d (e ∷ es) (inr has) none h =
 
 -- ---- a call that waits waited before, or was made
 
-left_waits : (failed : Bool) (e : Option Call) (d : Option ℕ) → left_of failed e ≡ Some (Waiting d) → e ≡ Some (Waiting d)
+left_waits : (failed : Bool) (e : Option CallState) (d : Option ℕ) → left_of failed e ≡ Some (Waiting d) → e ≡ Some (Waiting d)
 left_waits false (Some (Waiting x)) d h = h
 left_waits true (Some (Waiting x)) d h = cc
 left_waits failed e d h = cc
 
 -- nothing but an expiry comes of a moment
-if_is : (due : Bool) (c x : Call) → (x ≡ Expired → ⊥) → Some (if due then Expired else c) ≡ Some x → Some c ≡ Some x
+if_is : (due : Bool) (c x : CallState) → (x ≡ Expired → ⊥) → Some (if due then Expired else c) ≡ Some x → Some c ≡ Some x
 if_is false c x never h = h
 if_is true c x never h = absurd (never (let same : Expired ≡ x = cc in sym same))
 
-pub expired_is : (now : ℕ) (e : Option Call) (x : Call) → (x ≡ Expired → ⊥) → expired_at now e ≡ Some x → e ≡ Some x
+pub expired_is : (now : ℕ) (e : Option CallState) (x : CallState) → (x ≡ Expired → ⊥) → expired_at now e ≡ Some x → e ≡ Some x
 expired_is now None x never h = cc
 expired_is now (Some c) x never h = if_is (is_call_due now c) c x never h
 
-landed_waits : (landing : Landing) (e e2 : Option Call) (d : Option ℕ) → LandsOn landing e e2 → e2 ≡ Some (Waiting d) → e ≡ Some (Waiting d)
+landed_waits : (landing : CallResult) (e e2 : Option CallState) (d : Option ℕ) → LandsOn landing e e2 → e2 ≡ Some (Waiting d) → e ≡ Some (Waiting d)
 landed_waits landing (Some (Waiting x)) e2 d l h = let bad : Some (Ended l.0) ≡ Some (Waiting d) = sym l.2 ∙ h in cc
 landed_waits landing e e2 d l h = sym l ∙ h
 
@@ -122,8 +122,8 @@ same_least a b d le is = omega (arith, le, is)
 
 -- WHAT IS RIGHT OF A CALL BEHIND A CLEAN STEP was so before it, or the call was made: where it is so of what asking leaves, of what
 -- a moment leaves, and of what a delivery leaves.
-module _ {CO CI SO SI : Type 0} (c : Halves CO CI) (s : Halves SO SI) (seals : Bool) (P : Option Call → Type 0) (left : (failed : Bool) (e : Option Call) → P (left_of failed e) → P e) (passed : (now : ℕ) (e : Option Call) → P (expired_at now e) → P e) where
-  by_rule : (rule : Option Call → Option Call) → ((e : Option Call) → P (rule e) → P e) → (old new : Client) (id k : ℕ) → call_at new id ≡ rule (call_at old id) → ((j : ℕ) → j ≢ id → call_at new j ≡ call_at old j) → P (call_at new k) → P (call_at old k)
+module _ {CO CI SO SI : Type 0} (c : Halves CO CI) (s : Halves SO SI) (seals : Bool) (P : Option CallState → Type 0) (left : (failed : Bool) (e : Option CallState) → P (left_of failed e) → P e) (passed : (now : ℕ) (e : Option CallState) → P (expired_at now e) → P e) where
+  by_rule : (rule : Option CallState → Option CallState) → ((e : Option CallState) → P (rule e) → P e) → (old new : Client) (id k : ℕ) → call_at new id ≡ rule (call_at old id) → ((j : ℕ) → j ≢ id → call_at new j ≡ call_at old j) → P (call_at new k) → P (call_at old k)
   by_rule rule back old new id k own others h = elim (cases_eq id k) [
     | inl e ↦ back (call_at old k) (subst P (subst (λ (i : ℕ). call_at new i ≡ rule (call_at old i)) e own) h)
     | inr e ↦ subst P (others k (λ same. e (sym same))) h
@@ -152,19 +152,19 @@ module _ {CO CI SO SI : Type 0} (c : Halves CO CI) (s : Halves SO SI) (seals : B
   acted_waits fs old new k d = acts_so (calling c.out c.in_) 0 (λ x y. call_at y.state k ≡ Some (Waiting d) → call_at x.state k ≡ Some (Waiting d)) (λ x h. h) (λ f fs x y acts later h.
       let l = acts.1.reacts.lands in
       let a = arrives f acts.1.opening 0 in
-      let landing : Landing = landing_of a.header a.opening in
+      let landing : CallResult = call_result_of a.header a.opening in
       elim (cases_eq a.header.stream_id k) [
         | inl e ↦ landed_waits landing (call_at x.state k) (call_at acts.0.state k) d (subst (λ (i : ℕ). LandsOn landing (call_at x.state i) (call_at acts.0.state i)) e l.own) (later h)
         | inr e ↦ sym (l.others k (λ same. e (sym same))) ∙ later h
       ]) fs old new
 
   pub passed_waits : (failure : Option Failure) (old : ClientCore CO CI) (now : ℕ) (new : ClientCore CO CI) (k : ℕ) (d : Option ℕ) → Passes seals failure old now new → call_at new.state k ≡ Some (Waiting d) → call_at old.state k ≡ Some (Waiting d)
-  passed_waits failure old now new k d = passed_back c s seals (λ (e : Option Call). e ≡ Some (Waiting d)) (λ failed e. left_waits failed e d) (λ at e. expired_is at e (Waiting d) (λ same. cc)) failure old now new k
+  passed_waits failure old now new k d = passed_back c s seals (λ (e : Option CallState). e ≡ Some (Waiting d)) (λ failed e. left_waits failed e d) (λ at e. expired_is at e (Waiting d) (λ same. cc)) failure old now new k
 
   waited : (w : Net CO CI SO SI) (event : Event) (reply : Reply) (v : Net CO CI SO SI) (k : ℕ) (d : Option ℕ) → is_clean_event event ≡ true → is_clean_reply reply ≡ true → Steps c s seals w event reply v
       → call_at v.client.state k ≡ Some (Waiting d) → (call_at w.client.state k ≡ Some (Waiting d)) ⊎ IsCallOf k d w.moment event reply
   waited w event reply v k d e r p h =
-      called_back c s seals (λ (x : Option Call). x ≡ Some (Waiting d)) (λ failed x. left_waits failed x d) (λ at x. expired_is at x (Waiting d) (λ same. cc)) w event reply v k e r
+      called_back c s seals (λ (x : Option CallState). x ≡ Some (Waiting d)) (λ failed x. left_waits failed x d) (λ at x. expired_is at x (Waiting d) (λ same. cc)) w event reply v k e r
       (λ n j is count q. acted_waits q.does.does.frames (scene w.client.state w.client.connection) (scene v.client.state q.does.mid) k d q.does.does.acts) p h
 
   moment_goes : (w : Net CO CI SO SI) (event : Event) (reply : Reply) (v : Net CO CI SO SI) → Steps c s seals w event reply v → v.moment ≡ moment_after w.moment event reply
@@ -203,7 +203,7 @@ module _ {CO CI SO SI : Type 0} (c : Halves CO CI) (s : Halves SO SI) (seals : B
   }
 
   -- a call that waits has given no outcome
-  waits_ungiven : (k : ℕ) (o : Origin) (a : List Act) (e : Option Call) (st : Option Stream) (d : Option ℕ) → AtClient o a e st → e ≡ Some (Waiting d) → outcomes a ≡ []
+  waits_ungiven : (k : ℕ) (o : Origin) (a : List Act) (e : Option CallState) (st : Option StreamState) (d : Option ℕ) → AtClient o a e st → e ≡ Some (Waiting d) → outcomes a ≡ []
   waits_ungiven k Unborn a e st d h is = h.2
   waits_ungiven k (Born (ByCall q)) a (Some (Waiting x)) st d h is = h.0
   waits_ungiven k (Born (ByCall q)) a e st d h is = cc
@@ -214,7 +214,7 @@ module _ {CO CI SO SI : Type 0} (c : Halves CO CI) (s : Halves SO SI) (seals : B
   due_reaches now (Some at) = refl
 
   -- a call isn't due, if the moment doesn't reach its deadline
-  undue : (now : ℕ) (e : Option Call) → ((d : Option ℕ) → e ≡ Some (Waiting d) → reaches now d ≡ false) → due_at now e ≡ false
+  undue : (now : ℕ) (e : Option CallState) → ((d : Option ℕ) → e ≡ Some (Waiting d) → reaches now d ≡ false) → due_at now e ≡ false
   undue now (Some (Waiting d)) h = due_reaches now d ∙ h d refl
   undue now e h = refl
 

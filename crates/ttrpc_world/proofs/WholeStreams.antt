@@ -7,7 +7,7 @@ use Rattle.ttrpc_world.proofs.Jobs.{job_is, mailed}
 use Rattle.ttrpc_world.proofs.Keeps.{AreSteady, Keeps}
 use Rattle.ttrpc_world.proofs.Numbers.{AreRight, IsRightRun}
 use Rattle.ttrpc_world.proofs.Since.{since_holds, Starts, Stays}
-use Rattle.ttrpc_world.proofs.Words.{[], ActiveJob, all_at, all_given_down, all_given_up, ap, append-nil, AreWholeStreams, AsyncRules, between_own, Bool, ClientEnd, ClientSide, Entry, eqb-true, Event, Failure, false, finds_nothing_down, finds_nothing_up, Flow, flow_of, flows, given_by_end, given_still, got, Halves, heard_down, heard_down_append, heard_up, heard_up_append, in_order_here, inl, inr, IsClean, IsEmpty, IsFresh, IsInOrder, IsWholeStream, Item, items, items_append, job_at, jobs_at, List, Net, None, only_of, Option, parcels, put_down, put_down_append, put_up, put_up_append, ReceivesAt, ReceivesBy, Recv, refl, Reply, Rules, Runs, safe_limit, said_then, ServerEnd, ServerSide, Settings, Some, Stream, stream_at, stream_id_of, subst, sym, SyncRules, Thing, true, with_entry, Word, ℕ, ◌++◌, ◌∙◌, ◌≡◌}
+use Rattle.ttrpc_world.proofs.Words.{[], ActiveJob, all_at, all_given_down, all_given_up, ap, append-nil, AreWholeStreams, AsyncRules, between_own, Bool, ClientEnd, ClientSide, Entry, eqb-true, Event, Failure, false, finds_nothing_down, finds_nothing_up, Flow, flow_of, flows, given_by_end, given_still, got, Halves, heard_down, heard_down_append, heard_up, heard_up_append, in_order_here, inl, inr, IsClean, IsEmpty, IsFresh, IsInOrder, IsWholeStream, Item, items, items_append, job_at, jobs_at, List, Net, None, only_of, Option, parcels, put_down, put_down_append, put_up, put_up_append, ReceivesAt, ReceivesBy, Recv, refl, Reply, Rules, Runs, safe_limit, said_then, ServerEnd, ServerSide, Settings, Some, StreamState, stream_at, stream_id_of, subst, sym, SyncRules, MailboxEntry, true, with_entry, Word, ℕ, ◌++◌, ◌∙◌, ◌≡◌}
 
 module _ {CO CI SO SI : Type 0} (c : Halves CO CI) (s : Halves SO SI) (seals : Bool) (steady : AreSteady c s seals) (set : Settings) (f : ℕ → ℕ) where
   abbrev AllUp : ℕ → List Entry → Net CO CI SO SI → Type 0
@@ -17,7 +17,7 @@ module _ {CO CI SO SI : Type 0} (c : Halves CO CI) (s : Halves SO SI) (seals : B
   AllDown k t w = DownIdle w → got (heard_down (flows f k t)) ≡ items (put_down set.rules set.limit (flows f k t))
 
   -- A step that puts in no item leaves all given that was, of what goes either way.
-  given_on : (says : List Flow → List Thing) → ((a b : List Flow) → says (a ++ b) ≡ says a ++ says b) → (hears : List Flow → List Word) → ((a b : List Flow) → hears (a ++ b) ≡ hears a ++ hears b) → (k : ℕ) (t : List Entry) (event : Event) (reply : Reply) → items (says (flow_of f k event reply)) ≡ []
+  given_on : (says : List Flow → List MailboxEntry) → ((a b : List Flow) → says (a ++ b) ≡ says a ++ says b) → (hears : List Flow → List Word) → ((a b : List Flow) → hears (a ++ b) ≡ hears a ++ hears b) → (k : ℕ) (t : List Entry) (event : Event) (reply : Reply) → items (says (flow_of f k event reply)) ≡ []
       → IsInOrder (says (flows f k (with_entry t event reply))) (hears (flows f k (with_entry t event reply))) → got (hears (flows f k t)) ≡ items (says (flows f k t)) → got (hears (flows f k (with_entry t event reply))) ≡ items (says (flows f k (with_entry t event reply)))
   given_on says append hears joins k t event reply none order all =
       let old = flows f k t in
@@ -52,7 +52,7 @@ module _ {CO CI SO SI : Type 0} (c : Halves CO CI) (s : Halves SO SI) (seals : B
       all_given_up j p.0 p.1 o.holds m.2 p.3 (ap (parcels k) none)
   found_up AsyncRules None t w id k new i right alive own none (inr p) = let bad = p.0.4 in cc
 
-  found_down : (failure : Option Failure) (t : List Entry) (w : Net CO CI SO SI) (id k : ℕ) (st : Option Stream) → (i : Keeps c s set f t w) → failure ≡ None → id ≡ k → i.down ≡ [] → ReceivesAt failure (stream_at w.client.state id) None st
+  found_down : (failure : Option Failure) (t : List Entry) (w : Net CO CI SO SI) (id k : ℕ) (st : Option StreamState) → (i : Keeps c s set f t w) → failure ≡ None → id ≡ k → i.down ≡ [] → ReceivesAt failure (stream_at w.client.state id) None st
       → got (heard_down (flows f k t)) ≡ items (put_down set.rules set.limit (flows f k t))
   found_down None t w id k st i alive own none p = let n = i.stories k in all_given_down n.origin n.so_far (stream_at w.client.state k) st refl n.known (subst (λ (n : ℕ). ReceivesAt None (stream_at w.client.state n) None st) own p) (ap (parcels k) none)
   found_down (Some why) t w id k st i alive own none p = cc

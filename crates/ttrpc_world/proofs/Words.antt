@@ -17,7 +17,7 @@ pub use Rattle.ttrpc_world_trace.specs.Trace.{some_of}
 pub use Rattle.ttrpc_world_trace.specs.declared.events.Side.{Side}
 pub use Rattle.ttrpc_world_trace.specs.declared.events.StreamEnd.{StreamEnd}
 pub use Rattle.ttrpc_pair.proofs.Idle.{all_has_come, IsQueue, no_frames_come, none_reported, none_to_lend}
-pub use Rattle.ttrpc_pair.proofs.Words.{[], Absent, act_as_sent, ActiveJob, ActsAll, ActsOn, after_carry, after_report, all_at, all_behind, all_changed, all_in_front, all_joined, all_less, all_thrown, AllByRecursion, and_parts, Answer, Answers, AnswersBy, AnswersError, ap, append-nil, append_assoc, AreInFlight, AreLinked, arith, arrived, arrives, asked_row, AskedCall, Asks, associated, astray, AsyncKind, AsyncRules, at_stays, begun_count, between_other, between_own, Bool, BreaksAt, brought_by, Busy, by_status, call_at, CallEvent, calling, CancelledDuringWrite, carried_in_flight, CarriesDown, CarriesUp, Carry, case_of, case_row, cases_Bool, cases_eq, changed_at, changed_under, Chat, Client, ClientCore, ClientEnd, ClientKind, ClientSide, Close, closed_error, codes, cond-false, cond-true, Connection, Count, Cut, cut_in_flight, cut_to, CutsDown, CutsUp, data_case, deadline_of, DeadlineDuringWrite, Deliver, Delivers, DeliversDown, DeliversUp, Disconnected, DisconnectedInside, Does, Done, Drain, drained, drop, DropCall, DropReceiver, Drops, DropSender, DropsReceiver, DropsSender, due_at, due_jobs, empty_pipe, empty_queue, empty_request, empty_response, EndsOne, EndsStream, EndStream, Entry, eq-eqb, eqb-true, Err, Error, error_of, even_id_text, EvenId, Event, ExpireAll, ExpiresOne, Fail, failed_by_hand, failing, Failure, false, Fed, fed_in_flight, Feeds, filter, Finish, Finishes, first_failure, fit_to_message, fitted, Flying, flying_without, Forgot, Full, Given, given, Gives, Halves, Handed, HandlerError, Hands, has_begun, has_method, has_response, has_service, has_stream, header_of_frame, Hears, Held, id_of, if◌then◌else◌, Ignore, inactive_text, InboundTransform, Incoming, inl, Inlet, inlet_of, inr, INVALID_ARGUMENT, is_due, is_open, is_over, is_some, is_stream, IsCloseFrame, IsEnd, IsErrorResponse, IsFresh, IsOwned, IsPaired, IsRequest, IsResponse, IsSentFor, IsSound, IsTaken, Item, Job, job_at, JobList, JobReceives, jobs_at, Landing, landing_of, LandsOn, LandsOnce, last_id, le-ltb, left_behind, length, lent_of, limit_text, List, ltb-true, Mail, mail_in, mail_of, MakeJob, MakeStream, malformed_text, map, mapped_at, MESSAGE_LENGTH_MAX, MESSAGE_TYPE_DATA, MESSAGE_TYPE_REQUEST, MESSAGE_TYPE_RESPONSE, MessageHeader, method_text, min, more_linked, Named, nat_eq, nat_lt, ne_eqb, Net, new_job, NoMethod, None, none_in_flight, none_linked, NoneWaits, NoService, nothing, nothing_due, number_of, Ok, on_mail, OnlyClient, OnlyServer, open_part, Opened, OpenEvent, opening_flags, OpensStream, Option, other_of, Others, OutboundTransform, Outbox, Outcome, oversize_text, parcels, parcels_thrown, parcels_thrown_elsewhere, Passes, path_text, Pipe, pipe_after_carry, placed_in_flight, pushed_other, pushed_own, PutIn, Queue, Queued, reads_back, ReceivesBy, ReceivesFrom, Recv, refl, Refused, Reply, Request, request_again, request_bytes, request_fields, request_fits, request_row, request_step, Requests, Respond, Responds, RespondsTo, Response, response_again, response_bytes, response_fields, response_fits, response_size, response_step, Result, Row, row_leaves, Rules, rules, Runs, safe_limit, Scene, scene, Send, Sender, SenderClosed, SendResponse, SendsAll, SendsData, SendsItem, SendsOn, SendsOne, SendsOwnAnswer, Sent, Server, ServerCore, ServerEnd, ServerPasses, ServerSide, service_text, Services, serving, Some, status_response, stays, stays_as_it_is, StaysFound, StaysUp, Steps, Stream, stream_at, stream_body, stream_id_of, StreamReceives, subst, suc, sym, SyncKind, SyncRules, Take, take, take-append-drop, taken_back, taken_from, takes_back, TakesOutcome, Taking, thrown_in_flight, thrown_linked, throws, Tick, Ticket, timeout_response, Told, true, unary_body, under_both, under_other, under_own, under_stays, UNIMPLEMENTED, UNKNOWN, unknown_stream, unsendable, unsendable_error, waits, was_made, Ways, with_client, with_frame, with_lent, with_payload, with_sender, with_server, without, without_payload, without_receiver, zero, ℕ, ◌&&◌, ◌++◌, ◌+◌, ◌-◌, ◌<◌, ◌^◌, ◌∙◌, ◌∷◌, ◌≡◌, ◌≢◌, ◌≤◌, ◌⊎◌, Case, newer_case, newest_after, with_newest}
+pub use Rattle.ttrpc_pair.proofs.Words.{[], Absent, act_as_sent, ActiveJob, ActsAll, ActsOn, after_carry, after_report, all_at, all_behind, all_changed, all_in_front, all_joined, all_less, all_thrown, AllByRecursion, and_parts, Answer, Answers, AnswersBy, AnswersError, ap, append-nil, append_assoc, AreInFlight, AreLinked, arith, arrived, arrives, request_kind_row, AskedCall, Asks, associated, astray, AsyncKind, AsyncRules, at_stays, begun_count, between_other, between_own, Bool, BreaksAt, brought_by, Busy, by_status, call_at, CallEvent, calling, CancelledDuringWrite, carried_in_flight, CarriesDown, CarriesUp, Carry, case_of, case_row, cases_Bool, cases_eq, changed_at, changed_under, Chat, Client, ClientCore, ClientEnd, ClientKind, ClientSide, Close, closed_error, codes, cond-false, cond-true, Connection, Count, Cut, cut_in_flight, cut_to, CutsDown, CutsUp, data_case, deadline_of, DeadlineDuringWrite, Deliver, Delivers, DeliversDown, DeliversUp, Disconnected, DisconnectedInside, Does, Done, Drain, drained, drop, DropCall, DropReceiver, Drops, DropSender, DropsReceiver, DropsSender, due_at, due_jobs, empty_pipe, empty_queue, empty_request, empty_response, EndsOne, EndsStream, EndStream, Entry, eq-eqb, eqb-true, Err, Error, error_of, even_id_text, EvenId, Event, ExpireAll, ExpiresOne, Fail, failed_by_hand, failing, Failure, false, Fed, fed_in_flight, Feeds, filter, Finish, Finishes, first_failure, fit_to_message, fitted, Flying, flying_without, Forgot, Full, Given, given, Gives, Halves, Handed, HandlerError, Hands, has_begun, has_method, has_response, has_service, has_stream, header_of_frame, Hears, Held, id_of, if◌then◌else◌, Ignore, inactive_text, InboundTransform, Incoming, inl, StreamIdState, id_state_of, inr, INVALID_ARGUMENT, is_due, is_open, is_over, is_some, is_stream, IsCloseFrame, IsEnd, IsErrorResponse, IsFresh, IsOwned, IsPaired, IsRequest, IsResponse, IsSentFor, IsSound, IsTaken, Item, Job, job_at, JobList, JobReceives, jobs_at, CallResult, call_result_of, LandsOn, LandsOnce, last_id, le-ltb, left_behind, length, lent_of, limit_text, List, ltb-true, Mail, mail_in, mail_of, MakeJob, MakeStream, malformed_text, map, mapped_at, MESSAGE_LENGTH_MAX, MESSAGE_TYPE_DATA, MESSAGE_TYPE_REQUEST, MESSAGE_TYPE_RESPONSE, MessageHeader, method_text, min, more_linked, Named, nat_eq, nat_lt, ne_eqb, Net, new_job, NoMethod, None, none_in_flight, none_linked, NoneWaits, NoService, nothing, nothing_due, number_of, Ok, on_mail, OnlyClient, OnlyServer, open_part, Opened, OpenEvent, opening_flags, OpensStream, Option, other_of, Others, OutboundTransform, Outbox, Outcome, oversize_text, parcels, parcels_thrown, parcels_thrown_elsewhere, Passes, path_text, Pipe, pipe_after_carry, placed_in_flight, pushed_other, pushed_own, PutIn, Queue, Queued, reads_back, ReceivesBy, ReceivesFrom, Recv, refl, Refused, Reply, Request, request_again, request_bytes, request_fields, request_fits, request_row, request_step, Requests, Respond, Responds, RespondsTo, Response, response_again, response_bytes, response_fields, response_fits, response_size, response_step, Result, Row, row_leaves, Rules, rules, Runs, safe_limit, Scene, scene, Send, Sender, SenderClosed, SendResponse, SendsAll, SendsData, SendsItem, SendsOn, SendsOne, SendsOwnAnswer, Sent, Server, ServerCore, ServerEnd, ServerPasses, ServerSide, service_text, Services, serving, Some, status_response, stays, stays_as_it_is, StaysFound, StaysUp, Steps, StreamState, stream_at, stream_body, stream_id_of, StreamReceives, subst, suc, sym, SyncKind, SyncRules, Take, take, take-append-drop, taken_back, taken_from, takes_back, TakesOutcome, Taking, thrown_in_flight, thrown_linked, throws, Tick, Ticket, timeout_response, Told, true, unary_body, under_both, under_other, under_own, under_stays, UNIMPLEMENTED, UNKNOWN, unknown_stream, unsendable, unsendable_error, waits, was_made, Ways, with_client, with_frame, with_lent, with_payload, with_sender, with_server, without, without_payload, without_receiver, zero, ℕ, ◌&&◌, ◌++◌, ◌+◌, ◌-◌, ◌<◌, ◌^◌, ◌∙◌, ◌∷◌, ◌≡◌, ◌≢◌, ◌≤◌, ◌⊎◌, Case, newer_case, newest_after, with_newest}
 pub use Rattle.ttrpc_world_trace.proofs.AllGiven.{all_given_down, all_given_up, given_by_end, given_still}
 pub use Rattle.ttrpc_world_trace.proofs.AtClient.{AtClient, IsBegun, status_cases}
 pub use Rattle.ttrpc_world_trace.proofs.AtServer.{begun_calls, is_done, IsDown, IsItem, IsJob, IsNever, IsSent, never_down}
@@ -30,5 +30,5 @@ pub use Rattle.ttrpc_world_trace.proofs.Reading.{IsPlain, items_append, nothing_
 pub use Rattle.ttrpc_world_trace.proofs.Tidy.{IsPatient, IsSentBack, IsTooSoon, once, whole_call}
 pub use Rattle.ttrpc_world_trace.proofs.Turns.{IsAnsweredBy}
 pub use Rattle.ttrpc_world_trace.proofs.Upward.{box_of, box_up, flags_of, IsDeaf, IsMade, IsStarted, thing_up}
-pub use Rattle.ttrpc_world_trace.proofs.StoryWords.{Act, act_of, acts, Answered, AreInOrder, Asked, asked, asked_by, Began, Body, Call, Called, calls, calls_append, calls_work, close_flags, ClosedUp, closing_news, data_news, data_thing, deadline_in, Dropped, Ended, EndedDown, ending_thing, Expired, expired_at, Flow, flow_of, flows, Gave, got, HasOkStatus, heard, heard_down, heard_down_append, heard_up, heard_up_append, HeardDown, HeardUp, is_due as is_call_due, IsInOrder, IsOneToOne, IsRightAt, IsStreamOf, IsWhy, items, last_thing, left_of, News, news_of, only_if, Open, past_error, put_down, put_down_append, put_up, put_up_append, Ran, ReceivesAt, said, said_then, SentDown, SentUp, silent, StreamBody, Thing, ThingEnd, ThingItem, ThingLast, told, told_by, UnaryBody, unasked, unheard, untold, Waiting, LeavesDue, with_entry, with_mail, Word, work, ℤ, ◌%◌}
+pub use Rattle.ttrpc_world_trace.proofs.StoryWords.{Act, act_of, acts, Answered, AreInOrder, Asked, asked, asked_by, Began, Body, CallState, Called, calls, calls_append, calls_work, close_flags, ClosedUp, closing_delivery, data_delivery, data_thing, deadline_in, Dropped, Ended, EndedDown, ending_thing, Expired, expired_at, Flow, flow_of, flows, Gave, got, HasOkStatus, heard, heard_down, heard_down_append, heard_up, heard_up_append, HeardDown, HeardUp, is_due as is_call_due, IsInOrder, IsOneToOne, IsRightAt, IsStreamOf, IsWhy, items, last_thing, left_of, StreamDelivery, delivery_of, only_if, Open, past_error, put_down, put_down_append, put_up, put_up_append, Ran, ReceivesAt, said, said_then, SentDown, SentUp, silent, StreamBody, MailboxEntry, ThingEnd, ThingItem, ThingLast, told, told_by, UnaryBody, unasked, unheard, untold, Waiting, LeavesDue, with_entry, with_mail, Word, work, ℤ, ◌%◌}
 pub use Rattle.ttrpc_world.specs.Headline.Living.{IsEmpty, IsOpen, Lives}

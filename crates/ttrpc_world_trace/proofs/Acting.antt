@@ -1,5 +1,5 @@
 -- What a connection sends takes wing, and what comes in acts as it was sent.
-use Rattle.ttrpc_world_trace.proofs.FlightWords.{◌≡◌, ℕ, List, [], ◌∷◌, ◌++◌, map, refl, sym, ap, subst, ◌∙◌, append_assoc, append-nil, Queue, with_payload, OutboundTransform, Moves, Refusals, Outbox, Opening, Sent, SendsAll, Ways, Scene, ActsAll, Flying, ActsOn, AreLinked, arrived, frames_of}
+use Rattle.ttrpc_world_trace.proofs.FlightWords.{◌≡◌, ℕ, List, [], ◌∷◌, ◌++◌, map, refl, sym, ap, subst, ◌∙◌, append_assoc, append-nil, Queue, with_payload, OutboundTransform, Moves, Refusals, Outbox, InboundResult, Sent, SendsAll, Ways, Scene, ActsAll, Flying, ActsOn, AreLinked, arrived, frames_of}
 use Rattle.ttrpc_world_trace.proofs.Seals.{first_opened, more_linked}
 
 abbrev pub TakesWing : {O I : Type 0} → OutboundTransform O → Moves I → Refusals I → List Sent → Outbox O → Outbox O → List Flying → I → Type 0
@@ -37,7 +37,7 @@ act_as_sent seals w now (x ∷ front) rest out old new linked acts =
       (
         mid,
         one.sent,
-        subst (λ (o : Opening). w.core.reacts old.state old.outbox.half (record { header = x.frame.message.header; opening = o; now = now }) one.sent mid.state) first.0 one.reacts,
+        subst (λ (o : InboundResult). w.core.reacts old.state old.outbox.half (record { header = x.frame.message.header; opening = o; now = now }) one.sent mid.state) first.0 one.reacts,
         one.sends,
         later.0,
       ),

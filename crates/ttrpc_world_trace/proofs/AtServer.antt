@@ -1,6 +1,6 @@
 -- The server's side of one id: its request and the data behind it in flight, its job, what is in flight to the client, and the
 -- acts but for the outcome. It knows no outcome, and nothing of what the client keeps.
-use Rattle.ttrpc_world_trace.proofs.StoryWords.{◌⊎◌, ◌++◌, ◌∙◌, ◌∷◌, ◌≡◌, ◌≤◌, ℕ, [], Act, ActiveJob, all_joined, AllByRecursion, Answered, ap, arith, asked_by, Bool, calls, calls_work, Err, Error, false, Flying, Gives, HasOkStatus, inl, inr, IsBegun, is_stream, IsRequest, IsWorkOf, landing_of, last_id, length, List, map, MESSAGE_LENGTH_MAX, MESSAGE_TYPE_DATA, MESSAGE_TYPE_REQUEST, MessageHeader, None, Ok, OpenedPayload, Option, Ran, refl, Request, request_bytes, Response, Result, Rules, Some, StaysFound, subst, sym, SyncRules, true, work}
+use Rattle.ttrpc_world_trace.proofs.StoryWords.{◌⊎◌, ◌++◌, ◌∙◌, ◌∷◌, ◌≡◌, ◌≤◌, ℕ, [], Act, ActiveJob, all_joined, AllByRecursion, Answered, ap, arith, asked_by, Bool, calls, calls_work, Err, Error, false, Flying, Gives, HasOkStatus, inl, inr, IsBegun, is_stream, IsRequest, IsWorkOf, call_result_of, last_id, length, List, map, MESSAGE_LENGTH_MAX, MESSAGE_TYPE_DATA, MESSAGE_TYPE_REQUEST, MessageHeader, None, Ok, OpenedPayload, Option, Ran, refl, Request, request_bytes, Response, Result, Rules, Some, StaysFound, subst, sym, SyncRules, true, work}
 use Rattle.ttrpc_world_trace.proofs.Here.{Asking, Birth, Born, ByCall, ByOpen, first_act, Idle, IsAnswer, jobs_of, Left, Origin, Over, request_of, Runs, Unborn, ups_of, Waits, Work, works_of}
 
 -- ---- what is in flight, and what is left to be done
@@ -63,14 +63,14 @@ is_over p = false
 pub record IsDown (k : ℕ) (over : Bool) (o : Origin) (done : List Act) (x : Flying) : Type 0 where
   pub stream : x.frame.message.header.stream_id ≡ k
   pub outcome : Result Response Error
-  pub lands : landing_of x.frame.message.header (OpenedPayload x.plain) ≡ Gives outcome
+  pub lands : call_result_of x.frame.message.header (OpenedPayload x.plain) ≡ Gives outcome
   pub answer : (r : Response) → outcome ≡ Ok r → HasOkStatus r.status × ((over ≡ true) × IsAnswer o done r)
 
 -- one that gives a call an error: data, or a response that isn't OK
 pub record IsNever (k : ℕ) (x : Flying) : Type 0 where
   pub stream : x.frame.message.header.stream_id ≡ k
   pub error : Error
-  pub lands : landing_of x.frame.message.header (OpenedPayload x.plain) ≡ Gives (Err error)
+  pub lands : call_result_of x.frame.message.header (OpenedPayload x.plain) ≡ Gives (Err error)
 
 abbrev pub AreDown : ℕ → Origin → Work → List Flying → Type 0
 AreDown k o p downs = AllByRecursion (IsDown k (is_over p) o (works_of o p)) downs

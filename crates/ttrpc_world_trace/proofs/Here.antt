@@ -1,5 +1,5 @@
 -- All there is at one id, how it came to be used, and how far the server's work has come. No net, no queue and no bytes.
-use Rattle.ttrpc_world_trace.proofs.StoryWords.{[], Act, ActiveJob, acts, Answered, Asked, asked_by, Began, Bool, Call, call_at, Called, Client, Error, false, Flow, flows, Flying, is_stream, jobs_at, List, Ok, Opened, Option, parcels, Ran, refl, Request, Response, Result, Some, Stream, stream_at, work, ℕ, ◌++◌, ◌∷◌, ◌≡◌}
+use Rattle.ttrpc_world_trace.proofs.StoryWords.{[], Act, ActiveJob, acts, Answered, Asked, asked_by, Began, Bool, CallState, call_at, Called, Client, Error, false, Flow, flows, Flying, is_stream, jobs_at, List, Ok, Opened, Option, parcels, Ran, refl, Request, Response, Result, Some, StreamState, stream_at, work, ℕ, ◌++◌, ◌∷◌, ◌≡◌}
 use Rattle.ttrpc_world_trace.specs.declared.events.Entry.{Entry}
 
 -- what a trace says of an id and of its items, the frames in flight under it, its jobs at the server, and what the client keeps
@@ -9,8 +9,8 @@ pub record Here : Type 0 where
   pub ups : List Flying
   pub jobs : List ActiveJob
   pub downs : List Flying
-  pub call : Option Call
-  pub stream : Option Stream
+  pub call : Option CallState
+  pub stream : Option StreamState
 
 -- THE ONE PLACE WHERE IT IS MADE, of a trace, of all that is in flight each way, of the jobs and of the client. An event
 -- that isn't about an id leaves this there.

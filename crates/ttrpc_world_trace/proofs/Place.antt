@@ -1,6 +1,6 @@
 -- One id: both sides of it, its items both ways, how it comes to be used, and what frames that come to the server do to it. What
 -- an event isn't about stays.
-use Rattle.ttrpc_world_trace.proofs.StoryWords.{[], Act, all_joined, work_append, ActiveJob, AllByRecursion, ap, append-nil, asked_by, Bool, brought_by, Call, Called, deadline_in, false, Flow, Flying, heard_down, heard_down_append, heard_up, heard_up_append, has_method, inl, inr, is_stream, last_id, List, map, nat_eq, None, Open, Option, outcomes, outcomes_append, put_down, put_down_append, put_up, put_up_append, refl, Response, Rules, Services, Some, StaysFound, Stream, subst, sym, Thing, true, Waiting, with_mail, Word, work, ℕ, ◌%◌, ◌++◌, ◌∙◌, ◌∷◌, ◌≡◌, ◌≤◌, ◌⊎◌, inlet_by, inlet_in, inlet_of, Taking, AsyncRules, SyncRules, Body, UnaryBody, StreamBody}
+use Rattle.ttrpc_world_trace.proofs.StoryWords.{[], Act, all_joined, work_append, ActiveJob, AllByRecursion, ap, append-nil, asked_by, Bool, brought_by, CallState, Called, deadline_in, false, Flow, Flying, heard_down, heard_down_append, heard_up, heard_up_append, has_method, inl, inr, is_stream, last_id, List, map, nat_eq, None, Open, Option, outcomes, outcomes_append, put_down, put_down_append, put_up, put_up_append, refl, Response, Rules, Services, Some, StaysFound, StreamState, subst, sym, MailboxEntry, true, Waiting, with_mail, Word, work, ℕ, ◌%◌, ◌++◌, ◌∙◌, ◌∷◌, ◌≡◌, ◌≤◌, ◌⊎◌, id_state_by, id_state_in, id_state_of, Taking, AsyncRules, SyncRules, Body, UnaryBody, StreamBody}
 use Rattle.ttrpc_world_trace.proofs.Here.{Asking, Birth, Born, ByCall, ByOpen, first_act, first_flow, Here, Idle, IsAnswer, jobs_of, Left, no_cons, Origin, Over, request_of, Runs, Unborn, ups_of, Waits, Work, works_of}
 use Rattle.ttrpc_world_trace.proofs.AtServer.{AreItems, AtServer, concludes, goes_on, is_over, IsDown, IsJob, IsNever, IsSent, IsWork, mapped, maps, MayHave, moves, never_downs, unanswered, same_over}
 use Rattle.ttrpc_world_trace.proofs.AtClient.{AtClient, IsBegun}
@@ -33,7 +33,7 @@ abbrev pub DownOf : Settings → Origin → Work → Here → Type 0
 DownOf set o p h = Downward o p (put_down set.rules set.limit h.flows) (heard_down h.flows) h.downs h.stream
 
 -- In a clean run: nothing is in flight to the client before an id is used, and the call of a method is tidy.
-abbrev pub TidyOf : Settings → Origin → Work → List Act → List Flying → Option Call → Type 0
+abbrev pub TidyOf : Settings → Origin → Work → List Act → List Flying → Option CallState → Type 0
 TidyOf set Unborn p a d e = d ≡ []
 TidyOf set (Born (ByCall q)) p a d e = has_method set.services q.service q.method ≡ true → Tidy set.rules set.limit q p a d e
 TidyOf set (Born (ByOpen q up down)) p a d e = Unit {0}
@@ -77,21 +77,21 @@ pub flows_stay : {X : Type 0} (says : List Flow → List X) → ((a b : List Flo
 flows_stay says append f more is = flows_grow says append f more [] is ∙ append-nil (says f)
 
 -- the same way, where what was put in and told is the same
-pub up_as : {k : ℕ} {o : Origin} {p : Work} {put put2 : List Thing} {told told2 : List Word} {ups : List Flying} {st : Option Stream} → put2 ≡ put → told2 ≡ told → Upward k o p put told ups st → Upward k o p put2 told2 ups st
+pub up_as : {k : ℕ} {o : Origin} {p : Work} {put put2 : List MailboxEntry} {told told2 : List Word} {ups : List Flying} {st : Option StreamState} → put2 ≡ put → told2 ≡ told → Upward k o p put told ups st → Upward k o p put2 told2 ups st
 up_as hp ht u = rw (hp, ht) u
 
-pub down_as : {o : Origin} {p : Work} {put put2 : List Thing} {told told2 : List Word} {downs : List Flying} {st : Option Stream} → put2 ≡ put → told2 ≡ told → Downward o p put told downs st → Downward o p put2 told2 downs st
+pub down_as : {o : Origin} {p : Work} {put put2 : List MailboxEntry} {told told2 : List Word} {downs : List Flying} {st : Option StreamState} → put2 ≡ put → told2 ≡ told → Downward o p put told downs st → Downward o p put2 told2 downs st
 down_as hp ht d = rw (hp, ht) d
 
 -- ---- in a clean run
 
 -- what is no call of a method is tidy
-pub untidy : (set : Settings) (b : Birth) (p : Work) (a : List Act) (d : List Flying) (e : Option Call) → IsNoMethod set b → TidyOf set (Born b) p a d e
+pub untidy : (set : Settings) (b : Birth) (p : Work) (a : List Act) (d : List Flying) (e : Option CallState) → IsNoMethod set b → TidyOf set (Born b) p a d e
 untidy set (ByCall q) p a d e never = λ method. absurd (never method)
 untidy set (ByOpen q up down) p a d e never = tt
 
 -- only a stream has data in flight
-passed_tidy : (set : Settings) (b : Birth) (p : Work) (a : List Act) (d : List Flying) (e : Option Call) (x : Flying) (u : List Flying) → MayHave (Born b) (x ∷ u) → TidyOf set (Born b) p a d e
+passed_tidy : (set : Settings) (b : Birth) (p : Work) (a : List Act) (d : List Flying) (e : Option CallState) (x : Flying) (u : List Flying) → MayHave (Born b) (x ∷ u) → TidyOf set (Born b) p a d e
 passed_tidy set (ByCall q) p a d e x u may = absurd (no_cons x u may)
 passed_tidy set (ByOpen q up down) p a d e x u may = tt
 
@@ -180,12 +180,12 @@ abbrev pub IsOdd : Birth → ℕ → Type 0
 IsOdd (ByCall q) k = nat_eq (k % 2) 0 ≡ false
 IsOdd (ByOpen q up down) k = Unit {0}
 
-begins_tidy : (set : Settings) (b : Birth) (k : ℕ) (x : Flying) (a : List Act) (d : List Flying) (e : Option Call) (st : Option Stream) → IsOdd b k → x.frame.message.header.stream_id ≡ k → IsBegun b e st → outcomes a ≡ [] → d ≡ [] → TidyOf set (Born b) (Asking x) (a ++ first_act b ∷ []) d e
+begins_tidy : (set : Settings) (b : Birth) (k : ℕ) (x : Flying) (a : List Act) (d : List Flying) (e : Option CallState) (st : Option StreamState) → IsOdd b k → x.frame.message.header.stream_id ≡ k → IsBegun b e st → outcomes a ≡ [] → d ≡ [] → TidyOf set (Born b) (Asking x) (a ++ first_act b ∷ []) d e
 begins_tidy set (ByCall q) k x a d e st odd at begun none downs = λ method. (record { downs = downs; deadline = begun.0.0; call = begun.0.1; ungiven = outcomes_append a (Called q ∷ []) ∙ append-nil (outcomes a) ∙ none }, rw at odd)
 begins_tidy set (ByOpen q up down) k x a d e st odd at begun none downs = tt
 
 -- A call is accepted, or a stream opened.
-pub begins_here : {w w2 : Around} {k : ℕ} {h : Here} {e : Option Call} {st : Option Stream} (b : Birth) (x : Flying) → Place w k h → w2.set ≡ w.set → ((i : ℕ) → w.had i ≡ true → w2.had i ≡ true) → w.next ≤ k → (w2.next ≤ k → ⊥) → k ≤ last_id → IsSent k (request_of b) x
+pub begins_here : {w w2 : Around} {k : ℕ} {h : Here} {e : Option CallState} {st : Option StreamState} (b : Birth) (x : Flying) → Place w k h → w2.set ≡ w.set → ((i : ℕ) → w.had i ≡ true → w2.had i ≡ true) → w.next ≤ k → (w2.next ≤ k → ⊥) → k ≤ last_id → IsSent k (request_of b) x
     → x.frame.message.header.flags ≡ flags_of b → IsOdd b k → (h.call ≡ None → h.stream ≡ None → IsBegun b e st × IsStarted b st)
     → Place w2 k (record h { acts = h.acts ++ first_act b ∷ []; flows = h.flows ++ first_flow b ∷ []; ups = h.ups ++ x ∷ []; call = e; stream = st })
 begins_here {w} {w2} {k} {h} {e} {st} b x s set had y y2 within sent flags odd begun =
@@ -247,16 +247,16 @@ passed_ups : {w : Around} {k : ℕ} {h : Here} {x : Flying} {u : List Flying} �
 passed_ups a = a.known.server.ups_is ∙ ap (λ (xs : List Flying). xs ++ a.known.server.items) a.none_else ∙ a.items
 
 -- the job of a method's call: it is no stream's, and it is due no earlier than the call, under sync rules never
-pub record IsOwedBy (rules : Rules) (call : Option Call) (job : ActiveJob) : Type 0 where
+pub record IsOwedBy (rules : Rules) (call : Option CallState) (job : ActiveJob) : Type 0 where
   pub unary : is_stream job.body ≡ false
   pub patient : (d : Option ℕ) → call ≡ Some (Waiting d) → IsPatient d (deadline_in job.body)
   pub untimed : rules ≡ SyncRules → deadline_in job.body ≡ None
 
-abbrev pub IsHeldBy : Settings → Birth → Option Call → ActiveJob → Type 0
+abbrev pub IsHeldBy : Settings → Birth → Option CallState → ActiveJob → Type 0
 IsHeldBy set (ByCall q) call job = has_method set.services q.service q.method ≡ true → IsOwedBy set.rules call job
 IsHeldBy set (ByOpen q up down) call job = Unit {0}
 
-arrives_tidy : (set : Settings) (b : Birth) (x : Flying) (job : ActiveJob) (a : List Act) (d : List Flying) (e : Option Call) → IsHeldBy set b e job → TidyOf set (Born b) (Asking x) a d e → TidyOf set (Born b) (Waits job) a d e
+arrives_tidy : (set : Settings) (b : Birth) (x : Flying) (job : ActiveJob) (a : List Act) (d : List Flying) (e : Option CallState) → IsHeldBy set b e job → TidyOf set (Born b) (Asking x) a d e → TidyOf set (Born b) (Waits job) a d e
 arrives_tidy set (ByCall q) x job a d e held t = λ method.
     let o = held method in
     let un = (t method).0 in
@@ -289,7 +289,7 @@ fewer_may (ByCall request) x u may = absurd (no_cons x u may)
 fewer_may (ByOpen request up down) x u may = tt
 
 -- a mailbox that takes nothing, though it might, has ended
-box_full : (rules : Rules) (k : ℕ) (body : Body) → (rules ≡ AsyncRules → nat_eq (k % 2) 0 ≡ false → inlet_in body ≡ Taking → ⊥) → (rules ≡ SyncRules → is_stream body ≡ false) → (is_stream body ≡ true → nat_eq (k % 2) 0 ≡ false)
+box_full : (rules : Rules) (k : ℕ) (body : Body) → (rules ≡ AsyncRules → nat_eq (k % 2) 0 ≡ false → id_state_in body ≡ Taking → ⊥) → (rules ≡ SyncRules → is_stream body ≡ false) → (is_stream body ≡ true → nat_eq (k % 2) 0 ≡ false)
     → (box_of body).receiver ≡ Open → (box_of body).ended ≡ true
 box_full rules k (UnaryBody deadline) none kind odd o = cc
 box_full SyncRules k (StreamBody m) none kind odd o = let bad : true ≡ false = kind refl in cc
@@ -297,12 +297,12 @@ box_full AsyncRules k (StreamBody m) none kind odd o = by m.ended refl
   where
     by : (b : Bool) → m.ended ≡ b → m.ended ≡ true
     by true e = e
-    by false e = absurd (none refl (odd refl) (ap (λ (x : Bool). inlet_by x m.receiver) e ∙ ap (inlet_by false) o))
+    by false e = absurd (none refl (odd refl) (ap (λ (x : Bool). id_state_by x m.receiver) e ∙ ap (id_state_by false) o))
 
 -- Nobody takes data: nobody receives, or all came already.
-pub untaken : {w : Around} {k : ℕ} {h : Here} {b : Birth} (p : Work) → Known w k h (Born b) p → ups_of p ≡ [] → (w.set.rules ≡ AsyncRules → nat_eq (k % 2) 0 ≡ false → inlet_of h.jobs ≡ Taking → ⊥) → (box_up p).receiver ≡ Open → (box_up p).ended ≡ true
-untaken {w} {k} (Waits j) n plain none o = box_full w.set.rules k j.body (λ a odd t. none a odd (ap inlet_of n.server.jobs_is ∙ t)) n.server.is_work.kind n.up.is.fit o
-untaken {w} {k} (Runs j) n plain none o = box_full w.set.rules k j.body (λ a odd t. none a odd (ap inlet_of n.server.jobs_is ∙ t)) n.server.is_work.kind n.up.is.fit o
+pub untaken : {w : Around} {k : ℕ} {h : Here} {b : Birth} (p : Work) → Known w k h (Born b) p → ups_of p ≡ [] → (w.set.rules ≡ AsyncRules → nat_eq (k % 2) 0 ≡ false → id_state_of h.jobs ≡ Taking → ⊥) → (box_up p).receiver ≡ Open → (box_up p).ended ≡ true
+untaken {w} {k} (Waits j) n plain none o = box_full w.set.rules k j.body (λ a odd t. none a odd (ap id_state_of n.server.jobs_is ∙ t)) n.server.is_work.kind n.up.is.fit o
+untaken {w} {k} (Runs j) n plain none o = box_full w.set.rules k j.body (λ a odd t. none a odd (ap id_state_of n.server.jobs_is ∙ t)) n.server.is_work.kind n.up.is.fit o
 untaken (Asking x) n plain none o = absurd (no_cons x [] plain)
 untaken p n plain none o = cc
 

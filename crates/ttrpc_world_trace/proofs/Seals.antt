@@ -1,6 +1,6 @@
 -- The seals in flight: a chain from a state that is paired with the half that will open them. No bytes of a stream, no
 -- queue.
-use Rattle.ttrpc_world_trace.proofs.FlightWords.{◌≡◌, ℕ, suc, Bool, true, false, List, [], ◌∷◌, ◌++◌, refl, ap, subst, filter, Moves, Refusals, associated, InboundTransform, Opening, Opened, Refused, Opens, Flying, AreLinked, Chain, arrived, flying_without, TooLong}
+use Rattle.ttrpc_world_trace.proofs.FlightWords.{◌≡◌, ℕ, suc, Bool, true, false, List, [], ◌∷◌, ◌++◌, refl, ap, subst, filter, Moves, Refusals, associated, InboundTransform, InboundResult, Opened, Refused, Opens, Flying, AreLinked, Chain, arrived, flying_without, TooLong}
 use Rattle.ttrpc_secure.specs.Halves.{IsPaired}
 use Rattle.ttrpc_world_trace.proofs.Losing.{left_behind, stays}
 
@@ -19,7 +19,7 @@ more_linked seals opens refuses xs out in_ x u l sealed = record { start = l.sta
 
 -- ---- the first is opened
 
-pub first_opened : {O I : Type 0} (seals : Moves O) (h : InboundTransform I) (x : Flying) (xs : List Flying) (out : O) (in_ : I) (opening : Opening) (later : I) → AreLinked seals h.opens h.refuses (x ∷ xs) out in_
+pub first_opened : {O I : Type 0} (seals : Moves O) (h : InboundTransform I) (x : Flying) (xs : List Flying) (out : O) (in_ : I) (opening : InboundResult) (later : I) → AreLinked seals h.opens h.refuses (x ∷ xs) out in_
     → Opens h in_ (arrived x) opening later → (opening ≡ Opened x.plain) × AreLinked seals h.opens h.refuses xs out later
 first_opened seals h x xs out in_ TooLong later l opens = absurd opens
 first_opened seals h x xs out in_ (Refused why) later l opens = absurd ((l.paired 1 x.plain (associated x.frame.message.header) x.frame.message.payload l.chain.0 l.chain.1).0 why opens.0)

@@ -1,5 +1,5 @@
 -- What each event does to one id: to a job of it, at the client, and to the items of both receivers.
-use Rattle.ttrpc_world_trace.proofs.StoryWords.{[], Act, Call, ActiveJob, all_joined, AllByRecursion, Answered, ap, append-nil, append_assoc, AreInOrder, arith, asked_by, Bool, calls, closed, Dropped, EndedDown, ending_thing, Err, Error, expired_at, Failure, false, Flow, Flying, gave_of, Gives, GivesOutcome, heard_down, heard_up, HeardDown, HeardUp, is_entered, is_some, is_stream, IsExactlyOnce, LandsOn, last_id, left_of, length, List, Mail, map, None, Ok, OpenedPayload, Option, outcomes, put_down, put_up, Ran, Reaches, Receiver, Receives, ReceivesAt, refl, Request, Response, Result, Rules, Sender, SenderDropped, SentDown, Some, StaysFound, Stream, StreamBody, subst, sym, SyncRules, taken, Thing, ThingEnd, ThingItem, ThingLast, told_of, true, unless_dropped, unless_unheard, unsendable, without_reader, without_receiver, without_sender, Word, words_of, work, work_append, ℕ, ◌++◌, ◌∙◌, ◌∷◌, ◌≡◌, ◌≤◌, SentUp, ClosedUp, inl, inr, heard_down_append, heard_up_append, put_down_append, put_up_append}
+use Rattle.ttrpc_world_trace.proofs.StoryWords.{[], Act, CallState, ActiveJob, all_joined, AllByRecursion, Answered, ap, append-nil, append_assoc, AreInOrder, arith, asked_by, Bool, calls, closed, Dropped, EndedDown, ending_thing, Err, Error, expired_at, Failure, false, Flow, Flying, gave_of, Gives, GivesOutcome, heard_down, heard_up, HeardDown, HeardUp, is_entered, is_some, is_stream, IsExactlyOnce, LandsOn, last_id, left_of, length, List, Mail, map, None, Ok, OpenedPayload, Option, outcomes, put_down, put_up, Ran, Reaches, Receiver, Receives, ReceivesAt, refl, Request, Response, Result, Rules, Sender, SenderDropped, SentDown, Some, StaysFound, StreamState, StreamBody, subst, sym, SyncRules, taken, MailboxEntry, ThingEnd, ThingItem, ThingLast, told_of, true, unless_dropped, unless_unheard, unsendable, without_reader, without_receiver, without_sender, Word, words_of, work, work_append, ℕ, ◌++◌, ◌∙◌, ◌∷◌, ◌≡◌, ◌≤◌, SentUp, ClosedUp, inl, inr, heard_down_append, heard_up_append, put_down_append, put_up_append}
 use Rattle.ttrpc_world_trace.proofs.Here.{answered_work, Birth, Born, ByCall, ByOpen, first_act, Here, IsAnswer, jobs_of, Left, never_empty, only_one, Origin, Over, request_of, Runs, Unborn, ups_of, Waits, Work, works_of}
 use Rattle.ttrpc_world_trace.proofs.AtServer.{acts_begun, AtServer, goes_on, is_over, IsDown, IsItem, IsNever, mapped, never_down, one_up, uncalled}
 use Rattle.ttrpc_world_trace.proofs.AtClient.{whole_given}
@@ -84,7 +84,7 @@ running_of front back job s was taken none = let i = only_of front back job s wa
 answered_down : {w : Around} {k : ℕ} {h : Here} {b : Birth} {p : Work} (q : Work) (result : Result (Option Response) Error) (down : List Flying) → Known w k h (Born b) p → is_over p ≡ false → is_over q ≡ true
     → Goes (ending_thing w.set.rules w.set.limit result) down → DownOf w.set (Born b) q (record h { flows = h.flows ++ EndedDown result ∷ []; downs = h.downs ++ down })
 answered_down {w} {h = h} q result down n undone over goes =
-    let x : Thing = ending_thing w.set.rules w.set.limit result in
+    let x : MailboxEntry = ending_thing w.set.rules w.set.limit result in
     down_as (flows_grow (put_down w.set.rules w.set.limit) (put_down_append w.set.rules w.set.limit) h.flows (EndedDown result ∷ []) (x ∷ []) refl) (flows_stay heard_down heard_down_append h.flows (EndedDown result ∷ []) refl)
     (downward.goes q x down undone (λ e. let bad : true ≡ false = sym over ∙ e in cc) goes n.down)
 
@@ -153,13 +153,13 @@ pub down_of : {w : Around} {k : ℕ} {h : Here} (x : Flying) (d : List Flying) �
 down_of {k = k} x d s e = (subst (λ (ds : List Flying). AllByRecursion (IsDown k (is_over s.so_far) s.origin (works_of s.origin s.so_far)) ds) e s.known.server.down).0
 
 -- what it makes of a stream leaves its sender
-reached_sender : (old new : Option Stream) (entered : Bool) (x : Flying) → Reaches entered x.frame.message.header (OpenedPayload x.plain) old new → unsendable new ≡ unsendable old
+reached_sender : (old new : Option StreamState) (entered : Bool) (x : Flying) → Reaches entered x.frame.message.header (OpenedPayload x.plain) old new → unsendable new ≡ unsendable old
 reached_sender old new false x r = ap unsendable r
 reached_sender None new true x r = ap unsendable r
 reached_sender (Some s) new true x r = ap unsendable r.3
 
 -- It lands. A call that was forgotten stays so.
-pub lands_here : {w : Around} {k : ℕ} {h : Here} {e : Option Call} {st : Option Stream} (x : Flying) (d : List Flying) → (s : Place w k h) → (was : h.downs ≡ x ∷ d) → LandsOn (Gives (down_of x d s was).outcome) h.call e
+pub lands_here : {w : Around} {k : ℕ} {h : Here} {e : Option CallState} {st : Option StreamState} (x : Flying) (d : List Flying) → (s : Place w k h) → (was : h.downs ≡ x ∷ d) → LandsOn (Gives (down_of x d s was).outcome) h.call e
     → Reaches (is_entered h.stream) x.frame.message.header (OpenedPayload x.plain) h.stream st → Place w k (record h { downs = d; call = e; stream = st })
 lands_here {w} {k} {h} {e} {st} x d s was on reaches =
     let down = down_of x d s was in
@@ -167,7 +167,7 @@ lands_here {w} {k} {h} {e} {st} x d s was on reaches =
     let left = (subst (λ (ds : List Flying). AllByRecursion (IsDown k (is_over s.so_far) s.origin (works_of s.origin s.so_far)) ds) was n.server.down).1 in
     turned n (goes_on n.server.items d (λ j had. had) n.server n.server.are_items n.server.may_have n.server.ups_is left)
     (client.lands s.origin h.acts down.outcome h.call e h.stream st
-    (λ r is. let y = down.answer r is in (y.0, subst (λ (a : List Act). IsAnswer s.origin a r) (sym n.server.works_is) y.1.1)) on (λ none. subst (λ (z : Option Stream). Reaches (is_entered z) x.frame.message.header (OpenedPayload x.plain) z st) none reaches) n.client)
+    (λ r is. let y = down.answer r is in (y.0, subst (λ (a : List Act). IsAnswer s.origin a r) (sym n.server.works_is) y.1.1)) on (λ none. subst (λ (z : Option StreamState). Reaches (is_entered z) x.frame.message.header (OpenedPayload x.plain) z st) none reaches) n.client)
     (upward.stays st (λ is. sym (reached_sender h.stream st (is_entered h.stream) x reaches) ∙ is) n.up) (downward.comes x was reaches n.down)
     (λ clean. landed_tidy w.set s.origin s.so_far h.acts h.call e x h.downs d was (subst (λ g. LandsOn g h.call e) (sym down.lands) on) (n.tidy clean))
 
@@ -193,10 +193,10 @@ drops_here {h = h} s never = turned s.known s.known.server (client.forgets s.ori
 pub expires_here : {w : Around} {k : ℕ} {h : Here} (now : ℕ) → Place w k h → (w.set.clean → expired_at now h.call ≡ h.call) → Place w k (record h { call = expired_at now h.call })
 expires_here {w} {h = h} now s undue =
     turned s.known s.known.server (client.expires s.origin h.acts now h.call h.stream s.known.client) s.known.up s.known.down
-    (λ clean. subst (λ (e : Option Call). TidyOf w.set s.origin s.so_far h.acts h.downs e) (sym (undue clean)) (s.known.tidy clean))
+    (λ clean. subst (λ (e : Option CallState). TidyOf w.set s.origin s.so_far h.acts h.downs e) (sym (undue clean)) (s.known.tidy clean))
 
 -- what is kept of its stream changes
-streams_here : {w : Around} {k : ℕ} {h : Here} {f : List Flow} {st : Option Stream} → (s : Place w k h) → (h.stream ≡ None → st ≡ None) → UpOf k s.origin s.so_far (record h { flows = f; stream = st }) → DownOf w.set s.origin s.so_far (record h { flows = f; stream = st })
+streams_here : {w : Around} {k : ℕ} {h : Here} {f : List Flow} {st : Option StreamState} → (s : Place w k h) → (h.stream ≡ None → st ≡ None) → UpOf k s.origin s.so_far (record h { flows = f; stream = st }) → DownOf w.set s.origin s.so_far (record h { flows = f; stream = st })
     → Place w k (record h { flows = f; stream = st })
 streams_here {h = h} {st = st} s none up down = turned s.known s.known.server (client.streams s.origin h.acts h.call h.stream st none s.known.client) up down s.known.tidy
 
@@ -204,7 +204,7 @@ unborn_none : {w : Around} {k : ℕ} {h : Here} (o : Origin) (p : Work) → Know
 unborn_none Unborn p n e = n.client.1
 unborn_none (Born b) p n e = cc
 
-told_sender : (failure : Option Failure) (given : Option Word) (new old : Option Stream) → ReceivesAt failure old given new → unsendable new ≡ unsendable old
+told_sender : (failure : Option Failure) (given : Option Word) (new old : Option StreamState) → ReceivesAt failure old given new → unsendable new ≡ unsendable old
 told_sender failure given new None h = ap unsendable h.1
 told_sender failure given new (Some s) h = ap unsendable h.2
 
@@ -216,16 +216,16 @@ told_says set None = ((refl, refl, refl, refl), (refl, refl, refl, refl))
 told_says set (Some word) = ((refl, refl, refl, refl), (refl, refl, refl, refl))
 
 -- The client's receiver is told something.
-pub hears_here : {w : Around} {k : ℕ} {h : Here} {st : Option Stream} (failure : Option Failure) (given : Option Word) → Place w k h → IsPlainFailure failure → ReceivesAt failure h.stream given st → Place w k (record h { flows = h.flows ++ told_of HeardDown given; stream = st })
+pub hears_here : {w : Around} {k : ℕ} {h : Here} {st : Option StreamState} (failure : Option Failure) (given : Option Word) → Place w k h → IsPlainFailure failure → ReceivesAt failure h.stream given st → Place w k (record h { flows = h.flows ++ told_of HeardDown given; stream = st })
 hears_here {w} {h = h} {st} failure given s plain r =
     let more = told_of HeardDown given in
     let t = (told_says w.set given).0 in
-    streams_here s (λ none. (subst (λ (x : Option Stream). ReceivesAt failure x given st) none r).1)
+    streams_here s (λ none. (subst (λ (x : Option StreamState). ReceivesAt failure x given st) none r).1)
     (up_as (flows_stay put_up put_up_append h.flows more t.0) (flows_stay heard_up heard_up_append h.flows more t.1) (upward.stays st (λ e. sym (told_sender failure given st h.stream r) ∙ e) s.known.up))
     (down_as (flows_stay (put_down w.set.rules w.set.limit) (put_down_append w.set.rules w.set.limit) h.flows more t.2) (flows_grow heard_down heard_down_append h.flows more (words_of given) t.3)
     (downward.hears h.stream failure given (unborn_none s.origin s.so_far s.known) plain r s.known.down))
 
-reader_sends : (old : Option Stream) → unsendable (without_reader old) ≡ None → unsendable old ≡ None
+reader_sends : (old : Option StreamState) → unsendable (without_reader old) ≡ None → unsendable old ≡ None
 reader_sends None e = e
 reader_sends (Some s) e = by s.sender refl
   where
@@ -237,11 +237,11 @@ reader_sends (Some s) e = by s.sender refl
 pub unheard_here : {w : Around} {k : ℕ} {h : Here} → Place w k h → Place w k (record h { stream = without_reader h.stream })
 unheard_here {h = h} s = streams_here s (ap without_reader) (upward.stays (without_reader h.stream) (reader_sends h.stream) s.known.up) (downward.unheard h.stream s.known.down)
 
-dropped_sends : (s : Stream) (wanted : Bool) → unsendable (Some (record s { streaming_client = wanted; sender = SenderDropped })) ≡ None → ⊥
+dropped_sends : (s : StreamState) (wanted : Bool) → unsendable (Some (record s { streaming_client = wanted; sender = SenderDropped })) ≡ None → ⊥
 dropped_sends s true e = cc
 dropped_sends s false e = cc
 
-sender_gone : (old : Option Stream) → unsendable (without_sender old) ≡ None → ⊥
+sender_gone : (old : Option StreamState) → unsendable (without_sender old) ≡ None → ⊥
 sender_gone None e = let bad : unsendable None ≡ None = e in cc
 sender_gone (Some s) e = by s.mailbox.receiver e
   where
@@ -289,7 +289,7 @@ stream_within Unborn p n some = absurd (some n.client.1)
 stream_within (Born b) p n some = n.server.within
 
 -- what happened puts this in upwards, and is nothing else
-pub record IsPut (x : Flow) (thing : Thing) : Type 0 where
+pub record IsPut (x : Flow) (thing : MailboxEntry) : Type 0 where
   pub puts : put_up (x ∷ []) ≡ thing ∷ []
   pub tells : heard_up (x ∷ []) ≡ []
   pub ends : (rules : Rules) (limit : ℕ) → put_down rules limit (x ∷ []) ≡ []
@@ -303,17 +303,17 @@ pub close_put : IsPut ClosedUp ThingEnd
 close_put = record { puts = refl; tells = refl; ends = λ rules limit. refl; told = refl; follows = refl }
 
 -- its sender goes on so: it may send again only behind an item
-abbrev pub GoesOn : Thing → Option Stream → Type 0
+abbrev pub GoesOn : MailboxEntry → Option StreamState → Type 0
 GoesOn thing st = unsendable st ≡ None → closed (thing ∷ []) ≡ false
 
-closed_behind : (put : List Thing) (x : Thing) → closed put ≡ false → closed (x ∷ []) ≡ false → closed (put ++ x ∷ []) ≡ false
+closed_behind : (put : List MailboxEntry) (x : MailboxEntry) → closed put ≡ false → closed (x ∷ []) ≡ false → closed (put ++ x ∷ []) ≡ false
 closed_behind [] x a b = b
 closed_behind (ThingLast bytes ∷ put) x a b = cc
 closed_behind (ThingEnd ∷ put) x a b = cc
 closed_behind (y ∷ put) x a b = closed_behind put x a b
 
 -- The client sends data on its stream.
-pub sends_here : {w : Around} {k : ℕ} {h : Here} {st : Option Stream} (x : Flow) (thing : Thing) (y : Flying) (o : Origin) (p : Work) → Known w k h o p → (h.stream ≡ None → ⊥) → IsItem k y → IsPut x thing → thing_up y ≡ thing → unsendable h.stream ≡ None → GoesOn thing st
+pub sends_here : {w : Around} {k : ℕ} {h : Here} {st : Option StreamState} (x : Flow) (thing : MailboxEntry) (y : Flying) (o : Origin) (p : Work) → Known w k h o p → (h.stream ≡ None → ⊥) → IsItem k y → IsPut x thing → thing_up y ≡ thing → unsendable h.stream ≡ None → GoesOn thing st
     → box_down st ≡ box_down h.stream → wants st ≡ wants h.stream → Place w k (record h { flows = h.flows ++ x ∷ []; ups = h.ups ++ y ∷ []; stream = st })
 sends_here {w} {k} {h} {st} x thing y (Born (ByOpen q up down)) p n some is put comes may on box wanted =
     let m = n.server in

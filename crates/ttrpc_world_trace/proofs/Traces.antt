@@ -1,5 +1,5 @@
 -- A trace with one more entry, and what it says of one id; and lists of acts, and of what happened to items.
-use Rattle.ttrpc_world_trace.proofs.Words.{Bool, ◌≡◌, ◌≢◌, ◌≤◌, ◌⊎◌, arith, inl, inr, IsBegun, IsExactlyOnce, IsWorkOf, length, Request, subst, ℕ, List, [], ◌∷◌, ◌++◌, true, false, Option, Some, None, Result, nat_eq, refl, sym, ap, ◌∙◌, append_assoc, eq-eqb, ne_eqb, append-nil, flat_map, Error, Response, Rules, Event, Reply, Entry, Outcome, Given, Item, Thing, ThingEnd, ThingItem, ThingLast, Act, Called, Opened, Ran, Gave, act_of, acts, calls, names, only_if, outcomes, runs, work, Asked, Began, ClosedUp, EndedDown, ending_thing, Flow, heard_down, heard_up, HeardDown, HeardUp, put_down, put_up, SentDown, SentUp, Word}
+use Rattle.ttrpc_world_trace.proofs.Words.{Bool, ◌≡◌, ◌≢◌, ◌≤◌, ◌⊎◌, arith, inl, inr, IsBegun, IsExactlyOnce, IsWorkOf, length, Request, subst, ℕ, List, [], ◌∷◌, ◌++◌, true, false, Option, Some, None, Result, nat_eq, refl, sym, ap, ◌∙◌, append_assoc, eq-eqb, ne_eqb, append-nil, flat_map, Error, Response, Rules, Event, Reply, Entry, Outcome, Given, Item, MailboxEntry, ThingEnd, ThingItem, ThingLast, Act, Called, Opened, Ran, Gave, act_of, acts, calls, names, only_if, outcomes, runs, work, Asked, Began, ClosedUp, EndedDown, ending_thing, Flow, heard_down, heard_up, HeardDown, HeardUp, put_down, put_up, SentDown, SentUp, Word}
 
 -- the trace after one more entry
 abbrev pub with_entry : List Entry → Event → Reply → List Entry
@@ -130,17 +130,17 @@ all_work (act ∷ a) h = ap (λ xs. act ∷ xs) (all_work a h)
 
 pub put_up_append : (a b : List Flow) → put_up (a ++ b) ≡ put_up a ++ put_up b
 put_up_append [] b = refl
-put_up_append (Asked request ∷ a) b = ap (λ (xs : List Thing). ThingItem request.payload ∷ xs) (put_up_append a b)
+put_up_append (Asked request ∷ a) b = ap (λ (xs : List MailboxEntry). ThingItem request.payload ∷ xs) (put_up_append a b)
 put_up_append (Began request true ∷ a) b = put_up_append a b
-put_up_append (Began request false ∷ a) b = ap (λ (xs : List Thing). ThingLast request.payload ∷ xs) (put_up_append a b)
-put_up_append (SentUp bytes ∷ a) b = ap (λ (xs : List Thing). ThingItem bytes ∷ xs) (put_up_append a b)
-put_up_append (ClosedUp ∷ a) b = ap (λ (xs : List Thing). ThingEnd ∷ xs) (put_up_append a b)
+put_up_append (Began request false ∷ a) b = ap (λ (xs : List MailboxEntry). ThingLast request.payload ∷ xs) (put_up_append a b)
+put_up_append (SentUp bytes ∷ a) b = ap (λ (xs : List MailboxEntry). ThingItem bytes ∷ xs) (put_up_append a b)
+put_up_append (ClosedUp ∷ a) b = ap (λ (xs : List MailboxEntry). ThingEnd ∷ xs) (put_up_append a b)
 put_up_append (x ∷ a) b = put_up_append a b
 
 pub put_down_append : (rules : Rules) (limit : ℕ) (a b : List Flow) → put_down rules limit (a ++ b) ≡ put_down rules limit a ++ put_down rules limit b
 put_down_append rules limit [] b = refl
-put_down_append rules limit (SentDown bytes ∷ a) b = ap (λ (xs : List Thing). ThingItem bytes ∷ xs) (put_down_append rules limit a b)
-put_down_append rules limit (EndedDown result ∷ a) b = ap (λ (xs : List Thing). ending_thing rules limit result ∷ xs) (put_down_append rules limit a b)
+put_down_append rules limit (SentDown bytes ∷ a) b = ap (λ (xs : List MailboxEntry). ThingItem bytes ∷ xs) (put_down_append rules limit a b)
+put_down_append rules limit (EndedDown result ∷ a) b = ap (λ (xs : List MailboxEntry). ending_thing rules limit result ∷ xs) (put_down_append rules limit a b)
 put_down_append rules limit (x ∷ a) b = put_down_append rules limit a b
 
 pub heard_up_append : (a b : List Flow) → heard_up (a ++ b) ≡ heard_up a ++ heard_up b

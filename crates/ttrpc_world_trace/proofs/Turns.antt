@@ -1,11 +1,11 @@
 -- What each event does to what is tidy of one id, in a clean run.
-use Rattle.ttrpc_world_trace.proofs.StoryWords.{[], Act, ActiveJob, Answered, Call, asked_by, Bool, Error, Failure, false, Flying, gave_of, GivesOutcome, is_some, is_stream, landing_of, LandsOn, left_of, List, None, Ok, OpenedPayload, Option, outcomes, Response, Result, Some, subst, sym, SyncRules, true, work, ℕ, ◌++◌, ◌∙◌, ◌∷◌, ◌≡◌, inl, inr}
+use Rattle.ttrpc_world_trace.proofs.StoryWords.{[], Act, ActiveJob, Answered, CallState, asked_by, Bool, Error, Failure, false, Flying, gave_of, GivesOutcome, is_some, is_stream, call_result_of, LandsOn, left_of, List, None, Ok, OpenedPayload, Option, outcomes, Response, Result, Some, subst, sym, SyncRules, true, work, ℕ, ◌++◌, ◌∙◌, ◌∷◌, ◌≡◌, inl, inr}
 use Rattle.ttrpc_world_trace.proofs.Here.{answered_work, Birth, Born, ByCall, ByOpen, Here, Left, no_cons, Origin, Over, Runs, Unborn, Waits, Work, works_of}
 use Rattle.ttrpc_world_trace.proofs.Tidy.{down_none, IsAnsweredCall, IsSentBack, MayGo, never_gone, ran_gone, Tidy, tidy_answers, tidy_asked, tidy_lands, tidy_taken}
 use Rattle.ttrpc_world_trace.proofs.Place.{Around, Holds, InRest, InRun, InWait, Settings, TidyOf, work_in}
 
 -- it is handed out
-pub taken_tidy : (set : Settings) (b : Birth) (job : ActiveJob) (x : Act) (a : List Act) (d : List Flying) (e : Option Call) → outcomes (x ∷ []) ≡ [] → TidyOf set (Born b) (Waits job) a d e → TidyOf set (Born b) (Runs (record job { request = None })) (a ++ x ∷ []) d e
+pub taken_tidy : (set : Settings) (b : Birth) (job : ActiveJob) (x : Act) (a : List Act) (d : List Flying) (e : Option CallState) → outcomes (x ∷ []) ≡ [] → TidyOf set (Born b) (Waits job) a d e → TidyOf set (Born b) (Runs (record job { request = None })) (a ++ x ∷ []) d e
 taken_tidy set (ByCall q) job x a d e none t = λ method. tidy_taken x none (t method)
 taken_tidy set (ByOpen q up down) job x a d e none t = tt
 
@@ -13,7 +13,7 @@ taken_tidy set (ByOpen q up down) job x a d e none t = tt
 abbrev pub IsAnsweredBy : Settings → ActiveJob → Bool → Result (Option Response) Error → List Flying → Type 0
 IsAnsweredBy set job kind result down = is_stream job.body ≡ false → (kind ≡ false) × IsSentBack set.rules set.limit result down
 
-pub answered_tidy : (set : Settings) (b : Birth) (job : ActiveJob) (kind : Bool) (result : Result (Option Response) Error) (down : List Flying) (a : List Act) (d : List Flying) (e : Option Call) → IsAnsweredBy set job kind result down → work a ≡ works_of (Born b) (Runs job)
+pub answered_tidy : (set : Settings) (b : Birth) (job : ActiveJob) (kind : Bool) (result : Result (Option Response) Error) (down : List Flying) (a : List Act) (d : List Flying) (e : Option CallState) → IsAnsweredBy set job kind result down → work a ≡ works_of (Born b) (Runs job)
     → TidyOf set (Born b) (Runs job) a d e → TidyOf set (Born b) (Over (answered_work b job kind result)) (a ++ Answered kind result ∷ []) (d ++ down) e
 answered_tidy set (ByCall q) job kind result down a d e by works t = λ method.
     let s = by (t method).unary in
@@ -21,7 +21,7 @@ answered_tidy set (ByCall q) job kind result down a d e by works t = λ method.
 answered_tidy set (ByOpen q up down_) job kind result down a d e by works t = tt
 
 -- a response is queued for it, and it goes on: under sync rules
-pub responded_tidy : (set : Settings) (b : Birth) (job : ActiveJob) (response : Response) (down : List Flying) (a : List Act) (d : List Flying) (e : Option Call) → set.rules ≡ SyncRules → IsAnsweredBy set job false (Ok (Some response)) down → work a ≡ works_of (Born b) (Runs job)
+pub responded_tidy : (set : Settings) (b : Birth) (job : ActiveJob) (response : Response) (down : List Flying) (a : List Act) (d : List Flying) (e : Option CallState) → set.rules ≡ SyncRules → IsAnsweredBy set job false (Ok (Some response)) down → work a ≡ works_of (Born b) (Runs job)
     → TidyOf set (Born b) (Runs job) a d e → TidyOf set (Born b) (Left job response) (a ++ Answered false (Ok (Some response)) ∷ []) (d ++ down) e
 responded_tidy set (ByCall q) job response down a d e sync by works t = λ method.
     let o = t method in
@@ -47,13 +47,13 @@ stream_tidy (ByCall r) job q d (InRest response n) stream t = let bad : true ≡
 stream_tidy (ByOpen r up down) job q d x stream t = tt
 
 -- a frame lands
-pub landed_tidy : (set : Settings) (o : Origin) (p : Work) (a : List Act) (e e2 : Option Call) (x : Flying) (ds d : List Flying) → ds ≡ x ∷ d → LandsOn (landing_of x.frame.message.header (OpenedPayload x.plain)) e e2 → TidyOf set o p a ds e → TidyOf set o p a d e2
+pub landed_tidy : (set : Settings) (o : Origin) (p : Work) (a : List Act) (e e2 : Option CallState) (x : Flying) (ds d : List Flying) → ds ≡ x ∷ d → LandsOn (call_result_of x.frame.message.header (OpenedPayload x.plain)) e e2 → TidyOf set o p a ds e → TidyOf set o p a d e2
 landed_tidy set Unborn p a e e2 x ds d was on t = absurd (no_cons x d (sym was ∙ t))
 landed_tidy set (Born (ByCall q)) p a e e2 x ds d was on t = λ method. tidy_lands set.rules set.limit q p a e e2 x ds d was on (t method)
 landed_tidy set (Born (ByOpen q up down)) p a e e2 x ds d was on t = tt
 
 -- its outcome is asked for
-pub asked_tidy : (set : Settings) (o : Origin) (p : Work) (a : List Act) (d : List Flying) (e : Option Call) (failure : Option Failure) (given : Option (Result Response Error)) → failure ≡ None → GivesOutcome failure e given → TidyOf set o p a d e
+pub asked_tidy : (set : Settings) (o : Origin) (p : Work) (a : List Act) (d : List Flying) (e : Option CallState) (failure : Option Failure) (given : Option (Result Response Error)) → failure ≡ None → GivesOutcome failure e given → TidyOf set o p a d e
     → TidyOf set o p (a ++ gave_of given) d (left_of (is_some failure) e)
 asked_tidy set Unborn p a d e failure given alive g t = t
 asked_tidy set (Born (ByCall q)) p a d e failure given alive g t = λ method.

@@ -8,8 +8,8 @@ pub use Rattle.ttrpc_proto.specs.Messages.{empty_response, response_step, is_ok_
 pub use Rattle.ttrpc_proto.specs.Framing.Header.Oversize.{oversize_text}
 pub use Rattle.ttrpc_proto.specs.declared.framing.header.TheConstants.{FLAG_NO_DATA, FLAG_REMOTE_CLOSED}
 pub use Rattle.ttrpc_connection.specs.Failure.{IsTold as IsToldBy, error_of}
-pub use Rattle.ttrpc_connection.specs.declared.thing.Thing.{Thing}
-pub use Rattle.ttrpc_connection.specs.declared.thing.Thing.TheVariants.{Breaking as ThingBreaking, Closing as ThingClosing, End as ThingEnd, Item as ThingItem, Last as ThingLast}
+pub use Rattle.ttrpc_connection.specs.declared.thing.MailboxEntry.{MailboxEntry}
+pub use Rattle.ttrpc_connection.specs.declared.thing.MailboxEntry.TheVariants.{Breaking as ThingBreaking, Closing as ThingClosing, End as ThingEnd, Item as ThingItem, Last as ThingLast}
 pub use Rattle.ttrpc_connection.specs.declared.mailbox.Receiver.{Receiver}
 pub use Rattle.ttrpc_connection.specs.declared.mailbox.Receiver.TheVariants.{Open, Closed, Broken, Dropped}
 pub use Rattle.ttrpc_connection.specs.Items.{close_flags}
@@ -20,15 +20,15 @@ pub use Rattle.ttrpc_server.specs.declared.job.ActiveJob.{ActiveJob}
 pub use Rattle.ttrpc_server.proofs.Words.{Failure, jobs_at, MESSAGE_LENGTH_MAX, MESSAGE_TYPE_REQUEST, MessageHeader}
 pub use Rattle.ttrpc_server.specs.Types.{MESSAGE_TYPE_RESPONSE, MESSAGE_TYPE_DATA, Opened as OpenedPayload}
 pub use Rattle.ttrpc_server.specs.Protocol.{Leaves as LeavesDue}
-pub use Rattle.ttrpc_client.specs.declared.call.Call.{Call}
-pub use Rattle.ttrpc_client.specs.declared.call.Call.TheVariants.{Ended, Expired, Waiting}
-pub use Rattle.ttrpc_client.specs.Protocol.{by_code, by_status, expired_at, Gives, GivesOutcome, landing_of, LandsOn, last_id, left_of, request_bytes, TellsOutcome, breaks_with, Brings, BringsBeginning, closing_news, data_news, IsNews, malformed_text, News, news_of, Reaches, response_news}
+pub use Rattle.ttrpc_client.specs.declared.call.CallState.{CallState}
+pub use Rattle.ttrpc_client.specs.declared.call.CallState.TheVariants.{Ended, Expired, Waiting}
+pub use Rattle.ttrpc_client.specs.Protocol.{by_code, by_status, expired_at, Gives, GivesOutcome, call_result_of, LandsOn, last_id, left_of, request_bytes, TellsOutcome, breaks_with, Brings, BringsBeginning, closing_delivery, data_delivery, IsDelivery, malformed_text, StreamDelivery, delivery_of, Reaches, response_delivery}
 pub use Rattle.ttrpc_client.specs.State.{is_due, call_at, Client, stream_at}
-pub use Rattle.ttrpc_client.specs.declared.streams.Stream.{Stream}
+pub use Rattle.ttrpc_client.specs.declared.streams.StreamState.{StreamState}
 pub use Rattle.ttrpc_server.specs.declared.rules.Rules.{Rules}
 pub use Rattle.ttrpc_server.specs.declared.rules.Rules.TheVariants.{Async as AsyncRules, Sync as SyncRules}
-pub use Rattle.ttrpc_server.specs.Table.{inlet_by, inlet_in, inlet_of}
-pub use Rattle.ttrpc_server.specs.declared.rows.Inlet.TheVariants.{Taking}
+pub use Rattle.ttrpc_server.specs.Table.{id_state_by, id_state_in, id_state_of}
+pub use Rattle.ttrpc_server.specs.declared.rows.StreamIdState.TheVariants.{Taking}
 pub use Rattle.ttrpc_server.specs.State.{brought_by, deadline_in, has_method, is_stream, Services, stream_body, with_mail}
 pub use Rattle.ttrpc_server.specs.declared.job.Body.{Body}
 pub use Rattle.ttrpc_server.specs.declared.job.Body.TheVariants.{Stream as StreamBody, Unary as UnaryBody}

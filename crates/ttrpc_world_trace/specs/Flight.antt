@@ -12,7 +12,7 @@ use Rattle.ttrpc_proto.specs.Framing.Frames.{Held, Holds}
 use Rattle.ttrpc_proto.specs.Framing.Queue.{Queue, IsQueue, is_request_of, open_part, written_all}
 use Rattle.ttrpc_secure.specs.Halves.{Moves, Refusals, IsPaired}
 use Rattle.ttrpc_secure.specs.Sends.{associated}
-use Rattle.ttrpc_connection.specs.declared.arrived.Opening.TheVariants.{Opened}
+use Rattle.ttrpc_connection.specs.declared.arrived.InboundResult.TheVariants.{Opened}
 use Rattle.ttrpc_connection.specs.Frames.{Sent, SendsAll}
 use Rattle.ttrpc_connection.specs.Feeds.{Ways, Scene}
 

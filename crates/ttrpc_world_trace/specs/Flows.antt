@@ -4,8 +4,8 @@
 use Rattle.std.specs.Prelude.{◌≡◌, ℕ, List, [], ◌∷◌, ◌++◌, nat_eq, ◌||◌, Bool, true, false, Option, Some, Result, Ok, Err}
 use Rattle.std.specs.List.{flat_map}
 use Rattle.ttrpc_proto.specs.declared.error.Error.TheVariants.{Eof, RemoteClosed}
-use Rattle.ttrpc_connection.specs.declared.thing.Thing.{Thing}
-use Rattle.ttrpc_connection.specs.declared.thing.Thing.TheVariants as thing
+use Rattle.ttrpc_connection.specs.declared.thing.MailboxEntry.{MailboxEntry}
+use Rattle.ttrpc_connection.specs.declared.thing.MailboxEntry.TheVariants as thing
 use Rattle.ttrpc_server.specs.Protocol.{IsSentFor, fitted}
 use Rattle.ttrpc_server.specs.declared.rules.Rules.{Rules}
 use Rattle.ttrpc_client.specs.Protocol.{by_status}
@@ -71,18 +71,18 @@ Tells rules limit result outcome = (answer : Response) × IsSentFor rules result
 
 -- Returns the thing that a response puts in. For the outcome `Ok` this is its payload as the last item, and for an error only the
 -- end.
-abbrev pub last_thing : Result Response Error → Response → Thing
+abbrev pub last_thing : Result Response Error → Response → MailboxEntry
 last_thing (Ok told) r = thing.Last r.payload
 last_thing (Err error) r = thing.End
 
 -- Returns the thing that an answer or an end puts in.
-abbrev pub ending_thing : Rules → ℕ → Result (Option Response) Error → Thing
+abbrev pub ending_thing : Rules → ℕ → Result (Option Response) Error → MailboxEntry
 ending_thing rules limit (Ok (Some r)) = last_thing (told_by rules limit r) r
 ending_thing rules limit result = thing.End
 
 -- Returns all that was put in upwards: the request's payload, unless it opens a stream on which the client sends items, and then what
 -- the client sent. The request closes a stream on which the client sends no items. The request of a call closes nothing.
-abbrev pub put_up : List Flow → List Thing
+abbrev pub put_up : List Flow → List MailboxEntry
 put_up [] = []
 put_up (Asked request ∷ xs) = thing.Item request.payload ∷ put_up xs
 put_up (Began request true ∷ xs) = put_up xs
@@ -93,21 +93,21 @@ put_up (x ∷ xs) = put_up xs
 
 -- Returns all that was put in downwards: the items that the job sent, and then the payload of its answer, if the outcome is `Ok`. The
 -- answer or the end closes.
-abbrev pub put_down : Rules → ℕ → List Flow → List Thing
+abbrev pub put_down : Rules → ℕ → List Flow → List MailboxEntry
 put_down rules limit [] = []
 put_down rules limit (SentDown bytes ∷ xs) = thing.Item bytes ∷ put_down rules limit xs
 put_down rules limit (EndedDown result ∷ xs) = ending_thing rules limit result ∷ put_down rules limit xs
 put_down rules limit (x ∷ xs) = put_down rules limit xs
 
 -- Returns the items among the things that were put in.
-abbrev pub items : List Thing → List (List ℕ)
+abbrev pub items : List MailboxEntry → List (List ℕ)
 items [] = []
 items (thing.Item bytes ∷ xs) = bytes ∷ items xs
 items (thing.Last bytes ∷ xs) = bytes ∷ items xs
 items (x ∷ xs) = items xs
 
 -- Returns true if a last item or an end was put in.
-abbrev pub closed : List Thing → Bool
+abbrev pub closed : List MailboxEntry → Bool
 closed [] = false
 closed (thing.Last bytes ∷ xs) = true
 closed (thing.End ∷ xs) = true
@@ -172,7 +172,7 @@ has_end mood (x ∷ xs) = is_end (after mood x) || has_end (after mood x) xs
 
 -- THE ITEMS OF ONE RECEIVER, IN ORDER. Holds if the items that a receiver was given are a beginning of the items that were put in. If
 -- the receiver was given an end, then a last item or an end was put in, and the receiver was given all items.
-pub record IsInOrder (put : List Thing) (told : List Word) : Type 0 where
+pub record IsInOrder (put : List MailboxEntry) (told : List Word) : Type 0 where
   pub rest : List (List ℕ)
   pub beginning : items put ≡ got told ++ rest
   pub whole : has_end Fresh told ≡ true → (rest ≡ []) × (closed put ≡ true)

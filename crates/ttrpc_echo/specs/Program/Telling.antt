@@ -8,8 +8,8 @@ use Rattle.ttrpc_proto.specs.declared.error.Error.TheVariants.{NoMemory}
 use Rattle.ttrpc_proto.specs.ErrorText.{error_text}
 use Rattle.ttrpc_proto.specs.declared.messages.Response.{Response}
 use Rattle.ttrpc_echo.specs.Answered.{IsOfStream}
-use Rattle.ttrpc_echo.specs.declared.program.outcome.Outcome.{Outcome}
-use Rattle.ttrpc_echo.specs.declared.program.outcome.Outcome.TheVariants.{Done, Refused, WrongWords, Failed}
+use Rattle.ttrpc_echo.specs.declared.program.outcome.ProgramOutcome.{ProgramOutcome}
+use Rattle.ttrpc_echo.specs.declared.program.outcome.ProgramOutcome.TheVariants.{Done, Refused, WrongWords, Failed}
 
 -- the line of a response
 abbrev pub ok_line : List ℕ → List ℕ
@@ -25,7 +25,7 @@ abbrev pub IsUntold : Error → Type 0
 IsUntold e = (e ≡ NoMemory) ⊎ IsOfStream e
 
 -- the result of a call is written in a line: its payload or its refusal
-abbrev pub TellsCall : Result Response Error → Option (List ℕ) → Option (List ℕ) → Outcome → Type 0
+abbrev pub TellsCall : Result Response Error → Option (List ℕ) → Option (List ℕ) → ProgramOutcome → Type 0
 TellsCall (Ok r) held holds Done = Appends held holds (ok_line r.payload)
 TellsCall (Ok r) held holds Refused = ⊥
 TellsCall (Ok r) held holds WrongWords = ⊥

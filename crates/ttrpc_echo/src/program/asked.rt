@@ -4,21 +4,21 @@ ghost use Rattle.hex.specs.Hex.{decode_of};
 ghost use Rattle.ttrpc_echo.specs.Program.Words.{IsHex, IsTimeout};
 ghost use Rattle.ttrpc_echo.specs.Program.Runs.{IsMisread};
 
-use crate::program::outcome::Outcome;
+use crate::program::outcome::ProgramOutcome;
 use hex::FromHexError;
 use std::alloc::{AllocError, Global};
 use ttrpc_proto::{Error, Request};
 use ttrpc_wire::{Blob, Sequence, Text};
 
 /// Returns the bytes that these hex digits encode.
-pub fn payload_of(alloc: Global, digits: &str) -> Result<Vec<u8>, Outcome>
+pub fn payload_of(alloc: Global, digits: &str) -> Result<Vec<u8>, ProgramOutcome>
     ensures ok { IfOk result (λ payload. decode_of digits.now ≡ Ok payload.items) }
     ensures err { IfErr result (IsMisread (IsHex digits.now)) }
 {
     match hex::decode(alloc, digits) {
         Ok(payload) => Ok(payload),
-        Err(FromHexError::OutOfMemory) => Err(Outcome::Failed(Error::NoMemory)),
-        Err(_) => Err(Outcome::WrongWords),
+        Err(FromHexError::OutOfMemory) => Err(ProgramOutcome::Failed(Error::NoMemory)),
+        Err(_) => Err(ProgramOutcome::WrongWords),
     }
 }
 

@@ -11,14 +11,14 @@ mod telling;
 mod words;
 
 ghost use Rattle.std.specs.Prelude.{◌≡◌, map, string_bytes};
-ghost use Rattle.ttrpc_echo.specs.declared.program.outcome.Outcome.{Outcome as AnOutcome};
+ghost use Rattle.ttrpc_echo.specs.declared.program.outcome.ProgramOutcome.{ProgramOutcome as AnOutcome};
 ghost use Rattle.ttrpc_echo.specs.Program.Outcomes.{status_of};
 ghost use Rattle.ttrpc_echo.specs.Program.Runs.{Answers, Performs};
 
 pub use self::calls::{call_at, call_own};
 pub use self::faults::{FaultKeeper, Faults};
-pub use self::outcome::{Outcome, tell};
-pub use self::service::{Echo, EchoServer, System, start_server};
+pub use self::outcome::{ProgramOutcome, tell};
+pub use self::service::{DemoSystem, EchoHandler, EchoServer, start_server};
 pub use self::serving::{WatchedServer, begin, tell_address, tell_next};
 use crate::answer;
 use crate::program::calls::{call, call_own_with};
@@ -29,7 +29,7 @@ use std::io::{Read, Write};
 
 /// Runs the command that the words give, and reports failures on `errors`. With `nodelay`, each write by TCP goes out
 /// at once. Returns the status: 0, or 1 at a failure or a refused call, or 2 if the words are wrong.
-pub fn run<S: System + 'static, R: Read, W: Write, X: Write>(
+pub fn run<S: DemoSystem + 'static, R: Read, W: Write, X: Write>(
     rt: S,
     words: &[String],
     nodelay: bool,
@@ -45,14 +45,14 @@ pub fn run<S: System + 'static, R: Read, W: Write, X: Write>(
 }
 
 /// Runs the command that the words give.
-fn perform<S: System + 'static, R: Read, W: Write, X: Write>(
+fn perform<S: DemoSystem + 'static, R: Read, W: Write, X: Write>(
     rt: S,
     words: &[String],
     nodelay: bool,
     input: &mut R,
     output: &mut W,
     errors: &mut X,
-) -> Outcome
+) -> ProgramOutcome
     ensures { Performs (map string_bytes words.now) (R.remaining input.old) (R.remaining input.new)
         (W.contents output.old) (W.contents output.new) result }
 {
@@ -67,17 +67,17 @@ fn perform<S: System + 'static, R: Read, W: Write, X: Write>(
     }
     match call_words(words) {
         Some(words) => call(rt, words, nodelay, output),
-        None => Outcome::WrongWords,
+        None => ProgramOutcome::WrongWords,
     }
 }
 
 /// Answers the frames of the input.
-fn answer_input<R: Read, W: Write>(alloc: Global, input: &mut R, output: &mut W) -> Outcome
+fn answer_input<R: Read, W: Write>(alloc: Global, input: &mut R, output: &mut W) -> ProgramOutcome
     ensures { Answers (R.remaining input.old) (R.remaining input.new)
         (W.contents output.old) (W.contents output.new) result }
 {
     match answer(alloc, input, output) {
-        Ok(()) => Outcome::Done,
-        Err(error) => Outcome::Failed(error),
+        Ok(()) => ProgramOutcome::Done,
+        Err(error) => ProgramOutcome::Failed(error),
     }
 }

@@ -12,7 +12,7 @@ const USAGE: &str =
 
 /// How a run of the program ended.
 #[derive(Drop)]
-pub enum Outcome {
+pub enum ProgramOutcome {
     /// The command succeeded.
     Done,
     /// The call was refused, and its error was written to the output.
@@ -22,15 +22,15 @@ pub enum Outcome {
     Failed(Error),
 }
 
-impl Outcome {
+impl ProgramOutcome {
     /// Returns the status that the program ends with.
     fn status(&self) -> u8
         ensures { result ≡ status_of self.now }
     {
         match self {
-            Outcome::Done => 0,
-            Outcome::Refused | Outcome::Failed(_) => 1,
-            Outcome::WrongWords => 2,
+            ProgramOutcome::Done => 0,
+            ProgramOutcome::Refused | ProgramOutcome::Failed(_) => 1,
+            ProgramOutcome::WrongWords => 2,
         }
     }
 
@@ -40,15 +40,15 @@ impl Outcome {
             (Appends (X.contents errors.old) (X.contents errors.new))) }
     {
         match self {
-            Outcome::Done | Outcome::Refused => Ok(()),
-            Outcome::Failed(error) => writeln!(errors, "ttrpc-demo: {error}"),
-            Outcome::WrongWords => writeln!(errors, "{USAGE}"),
+            ProgramOutcome::Done | ProgramOutcome::Refused => Ok(()),
+            ProgramOutcome::Failed(error) => writeln!(errors, "ttrpc-demo: {error}"),
+            ProgramOutcome::WrongWords => writeln!(errors, "{USAGE}"),
         }
     }
 }
 
 /// Reports a failure, and returns the status.
-pub fn tell<X: Write>(outcome: &Outcome, errors: &mut X) -> u8
+pub fn tell<X: Write>(outcome: &ProgramOutcome, errors: &mut X) -> u8
     ensures { result ≡ status_of outcome.now }
 {
     let _ = outcome.report(errors);

@@ -9,15 +9,15 @@ use ttrpc_sync::{Host, Runtime};
 use ttrpc_sync_server::{MethodHandler, NoHook, Server, SharedWatch, TtrpcContext};
 
 /// The parts of the system that the program uses.
-pub trait System: Runtime + Files + Net<Listener = TcpListener, Stream = TcpStream> {}
+pub trait DemoSystem: Runtime + Files + Net<Listener = TcpListener, Stream = TcpStream> {}
 
-impl<R: Runtime + Files + Net<Listener = TcpListener, Stream = TcpStream>> System for R {}
+impl<R: Runtime + Files + Net<Listener = TcpListener, Stream = TcpStream>> DemoSystem for R {}
 
 /// The method `Echo`, which answers with the request's payload and an OK status that is present and empty.
 #[derive(Clone, Copy, Debug)]
-pub struct Echo {}
+pub struct EchoHandler {}
 
-impl<R, O, I> MethodHandler<R, O, I> for Echo
+impl<R, O, I> MethodHandler<R, O, I> for EchoHandler
 where
     R: Host,
     O: OutboundTransform + Drop,
@@ -29,10 +29,10 @@ where
 }
 
 /// A server of the one method `Echo` of `demo.Echo`, and its watch.
-pub type EchoServer<R, W> = Server<R, Echo, NoHook, W>;
+pub type EchoServer<R, W> = Server<R, EchoHandler, NoHook, W>;
 
 /// Starts the server, which listens at this address. With `nodelay`, each write by TCP goes out at once.
-pub fn start_server<R: System + 'static, W: SharedWatch>(
+pub fn start_server<R: DemoSystem + 'static, W: SharedWatch>(
     rt: R,
     address: &str,
     nodelay: bool,
@@ -40,7 +40,7 @@ pub fn start_server<R: System + 'static, W: SharedWatch>(
 ) -> Result<EchoServer<R, W>> {
     let alloc = rt.alloc();
     let mut methods = BTreeMap::new(alloc);
-    methods.insert(String::from_str(alloc, "/demo.Echo/Echo")?, Echo {})?;
+    methods.insert(String::from_str(alloc, "/demo.Echo/Echo")?, EchoHandler {})?;
     let mut server = Server::new(rt)?
         .set_watch(watch)?
         .register_service(methods)?

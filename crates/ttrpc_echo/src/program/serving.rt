@@ -2,8 +2,8 @@
 ghost use Rattle.ttrpc_echo.specs.Program.Runs.{IsFailed};
 
 use crate::program::faults::{FaultKeeper, Faults};
-use crate::program::outcome::Outcome;
-use crate::program::service::{EchoServer, System, start_server};
+use crate::program::outcome::ProgramOutcome;
+use crate::program::service::{DemoSystem, EchoServer, start_server};
 use std::alloc::Global;
 use std::io::{self, Write};
 use std::sync::{Arc, Wait};
@@ -14,17 +14,17 @@ pub type WatchedServer<R> = EchoServer<R, FaultKeeper<R>>;
 
 /// Serves at this address until the program is killed. It reports on `errors` where it listens, and then each of its
 /// faults. It returns only if it can't begin.
-pub fn serve<R: System + 'static, X: Write>(
+pub fn serve<R: DemoSystem + 'static, X: Write>(
     rt: R,
     address: &str,
     nodelay: bool,
     errors: &mut X,
-) -> Outcome
+) -> ProgramOutcome
     ensures { IsFailed result }
 {
     let (waiter, faults, server) = match begin(rt, address, nodelay, errors) {
         Ok(begun) => begun,
-        Err(error) => return Outcome::Failed(error),
+        Err(error) => return ProgramOutcome::Failed(error),
     };
     for _ in waiter.forever() {
         tell_next(&waiter, &*faults, errors);
@@ -41,7 +41,7 @@ pub fn tell_next<R: Wait, X: Write>(rt: &R, faults: &Faults, errors: &mut X) {
 
 /// Starts the server and reports on `errors` where it listens. Returns a runtime to wait with, the server's faults, and
 /// the server.
-pub fn begin<R: System + 'static, X: Write>(
+pub fn begin<R: DemoSystem + 'static, X: Write>(
     rt: R,
     address: &str,
     nodelay: bool,
@@ -57,7 +57,7 @@ pub fn begin<R: System + 'static, X: Write>(
 
 /// Reports in a line where the server listens: at the address of its socket, with the port that the system chose if the
 /// port was 0. If the server has no such address, the line has `address` instead.
-pub fn tell_address<R: System, W: Drop, X: Write>(
+pub fn tell_address<R: DemoSystem, W: Drop, X: Write>(
     server: &EchoServer<R, W>,
     address: &str,
     errors: &mut X,

@@ -3,7 +3,7 @@ ghost use Rattle.std.specs.Prelude.{◌≡◌, IsOk, OnOk, IfErr, IfSome};
 ghost use Rattle.std.specs.Io.KnownBytes.{Appends, Keeps};
 ghost use Rattle.ttrpc_echo.specs.Program.Telling.{error_line, ok_line, IsUntold, TellsCall};
 
-use crate::program::outcome::Outcome;
+use crate::program::outcome::ProgramOutcome;
 use crate::{broken, flush};
 use std::alloc::Global;
 use std::io;
@@ -15,17 +15,17 @@ pub fn tell_call<W: Write>(
     alloc: Global,
     called: Result<Response, Error>,
     output: &mut W,
-) -> Outcome
+) -> ProgramOutcome
     ensures { TellsCall called (W.contents output.old) (W.contents output.new) result }
 {
     match called {
         Ok(response) => match tell_payload(alloc, response.payload.as_slice(), output) {
-            Ok(()) => Outcome::Done,
-            Err(error) => Outcome::Failed(error),
+            Ok(()) => ProgramOutcome::Done,
+            Err(error) => ProgramOutcome::Failed(error),
         },
         Err(refusal) => match tell_refusal(alloc, &refusal, output) {
-            Ok(()) => Outcome::Refused,
-            Err(error) => Outcome::Failed(error),
+            Ok(()) => ProgramOutcome::Refused,
+            Err(error) => ProgramOutcome::Failed(error),
         },
     }
 }

@@ -1,6 +1,6 @@
 //! Servers, each in its own thread.
 use crate::apart::{Served, serve_apart};
-use crate::system::{System, nix};
+use crate::system::{HealthSystem, nix};
 use health_stub::HealthTable;
 use std::alloc::Global;
 use std::io::{Read, Write};
@@ -15,7 +15,7 @@ pub fn word_of(alloc: Global, address: SocketAddr) -> std::result::Result<String
 }
 
 /// Starts a server of `count` connections at a free port, with `a` at 2 and then 1.
-pub fn health_server<R: System + Threads + Send + 'static>(
+pub fn health_server<R: HealthSystem + Threads + Send + 'static>(
     rt: &R,
     count: usize,
 ) -> std::result::Result<Served, Fail> {
@@ -29,7 +29,7 @@ const CUT: &[u8] = b"\0\0\0\x02\0\0\0\x01\x03\0\x08\x02";
 
 /// Starts a server of one connection at a free port. It reads a request of `Watch` for `a`, and ends after the first
 /// status.
-pub fn cut_server<R: System + Threads + Send + 'static>(
+pub fn cut_server<R: HealthSystem + Threads + Send + 'static>(
     rt: &R,
 ) -> std::result::Result<Served, Fail> {
     let listener = TcpListener::bind(rt, "127.0.0.1:0")?;

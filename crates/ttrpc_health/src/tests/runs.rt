@@ -1,6 +1,6 @@
 //! Runs of the program's commands.
 use crate::program::run;
-use crate::system::System;
+use crate::system::HealthSystem;
 use std::alloc::Global;
 use std::test::Fail;
 use std::thread::Threads;
@@ -16,7 +16,7 @@ fn words_of(alloc: Global, words: &[&str], address: &str) -> Result<Vec<String>,
 }
 
 /// Returns whether the program ends with this status and this output, and its reports of faults begin with these bytes.
-pub fn is_so<R: System + Threads + Send + 'static>(
+pub fn is_so<R: HealthSystem + Threads + Send + 'static>(
     rt: &R,
     address: &str,
     words: &[&str],

@@ -15,13 +15,13 @@ const PUT_BACK_MAX: usize = 16_384;
 /// Bytes in order, which are appended at the end and taken from the front. Bytes that were taken stay in the ring until
 /// they are in the way, so that the same memory is used again.
 #[derive(Debug, Drop)]
-pub struct Bytes {
+pub struct ByteRing {
     ring: HeapCircularBuffer<u8>,
     // The number of the ring's first bytes that were taken.
     passed: usize,
 }
 
-impl Model for Bytes {
+impl Model for ByteRing {
     ghost use Rattle.std.specs.Prelude.{ℕ, ◌≤◌, length, drop};
     ghost use Rattle.circular_buffer.specs.Buffer.{Buffer, buffer};
 
@@ -32,12 +32,12 @@ impl Model for Bytes {
     ghost invariant = { λ a. a.passed ≤ length a.ring.items };
 }
 
-impl Bytes {
+impl ByteRing {
     /// Returns no bytes, in a ring with room for this many.
-    pub fn with_capacity(alloc: Global, capacity: usize) -> Result<Bytes, AllocError>
+    pub fn with_capacity(alloc: Global, capacity: usize) -> Result<ByteRing, AllocError>
         ensures { IfOk result (λ b. b ≡ buffer [] capacity) }
     {
-        Ok(Bytes {
+        Ok(ByteRing {
             ring: HeapCircularBuffer::with_capacity(alloc, capacity)?,
             passed: 0,
         })

@@ -8,12 +8,12 @@ ghost use Rattle.ttrpc_proto.specs.Framing.Laid.{entries_of, frames_of, gone_rec
 ghost use Rattle.ttrpc_proto.specs.Framing.Header.{header_bytes};
 ghost use Rattle.ttrpc_proto.specs.Framing.Queue.{Queue, IsQueue, written, first_open, open_part, empty_queue, free, held, with_frame, with_lent, after_report, first_gone, first_ticket, last_may_change, filled, withdrawn, is_request_of, has_begun, without};
 
-use crate::framing::bytes::Bytes;
+use crate::framing::bytes::ByteRing;
 use crate::framing::gen_message::GenMessage;
 use crate::framing::header::{MESSAGE_HEADER_LENGTH, MessageHeader};
 use crate::framing::owners::Owners;
 use crate::framing::record::Record;
-use crate::framing::told::Told;
+use crate::framing::told::ReportedBytes;
 use crate::{Error, Result};
 use std::alloc::Global;
 use std::collections::VecDeque;
@@ -42,10 +42,10 @@ pub struct Queued {
 /// are lent piece by piece, and leave when they are reported. Only `new` and `place` take memory.
 #[derive(Debug, Drop)]
 pub struct Outgoing {
-    ring: Bytes,
+    ring: ByteRing,
     records: VecDeque<Record>,
     // The bytes of the first frame that were reported, which have left the ring.
-    told: Told,
+    told: ReportedBytes,
     reported: usize,
     lent: usize,
     begun: bool,
@@ -78,9 +78,9 @@ impl Outgoing {
         ensures only_memory { IfErr result (λ e. e ≡ Error.NoMemory) }
     {
         Ok(Outgoing {
-            ring: Bytes::with_capacity(alloc, OUTGOING_LENGTH_MAX)?,
+            ring: ByteRing::with_capacity(alloc, OUTGOING_LENGTH_MAX)?,
             records: VecDeque::new(alloc),
-            told: Told::new(),
+            told: ReportedBytes::new(),
             reported: 0,
             lent: 0,
             begun: false,
@@ -236,7 +236,7 @@ impl Outgoing {
             let (sent, gone) = take_first(&mut self.records, self.sent);
             self.sent = sent;
             self.ring.pass(gone);
-            self.told = Told::new();
+            self.told = ReportedBytes::new();
             self.reported = 0;
             self.begun = false;
         }

@@ -5,34 +5,34 @@ ghost use Rattle.std.specs.Borrow.{ftrue};
 use std::fmt::{self, Debug, Formatter, Write};
 use std::marker::{Model, PhantomData};
 
-/// Bytes that are no longer kept. The type takes no memory, and its methods do nothing when they run.
+/// Reported bytes, which are no longer kept. The type takes no memory, and its methods do nothing when they run.
 #[derive(Drop)]
-pub struct Told {
+pub struct ReportedBytes {
     marker: PhantomData<u8>,
     pub ghost bytes: { List ℕ },
 }
 
-impl Model for Told {
+impl Model for ReportedBytes {
     ghost also_owns = { λ _. ftrue };
 }
 
 // A struct with `also_owns` is neither `Send` nor `Sync` by itself. This struct owns nothing.
-unsafe impl Send for Told {}
+unsafe impl Send for ReportedBytes {}
 
-unsafe impl Sync for Told {}
+unsafe impl Sync for ReportedBytes {}
 
-impl Debug for Told {
+impl Debug for ReportedBytes {
     fn fmt<W: Write>(&self, f: &mut Formatter<W>) -> fmt::Result {
-        f.write_str("Told")
+        f.write_str("ReportedBytes")
     }
 }
 
-impl Told {
+impl ReportedBytes {
     /// Returns no bytes.
-    pub(crate) fn new() -> Told
+    pub(crate) fn new() -> ReportedBytes
         ensures { result.bytes ≡ [] }
     {
-        Told {
+        ReportedBytes {
             marker: PhantomData,
         }
     }

@@ -61,8 +61,8 @@ abbrev pub carrying : GenMessage → List ℕ → GenMessage
 carrying m payload = record { header = record m.header { length = length payload }; payload = payload }
 
 -- Returns a frame with this header and no payload. The frame has no ticket, and isn't a unary request's.
-abbrev pub unowned : MessageHeader → Queued
-unowned h = record { message = record { header = h; payload = [] }; ticket = None; is_unary_request = false; owner = 0 }
+abbrev pub ownerless_frame : MessageHeader → Queued
+ownerless_frame h = record { message = record { header = h; payload = [] }; ticket = None; is_unary_request = false; owner = 0 }
 
 -- The empty message: its header has only zeros, and its payload has no bytes.
 abbrev pub no_message : GenMessage

@@ -4,7 +4,7 @@ ghost use Rattle.ttrpc_proto.specs.Framing.Queue.{with_frame, with_payload};
 ghost use Rattle.ttrpc_proto.specs.declared.framing.header.TheConstants.{MESSAGE_LENGTH_MAX};
 ghost use Rattle.ttrpc_secure.specs.Halves.{MayFail};
 ghost use Rattle.ttrpc_secure.specs.Sends.{SendsUnder, associated, safe_limit};
-ghost use Rattle.ttrpc_secure.specs.Context.Calls.{FailsToOpen, FailsToSeal, FailsToSend, Seals, TellsUnsent, carrying, no_message, unowned};
+ghost use Rattle.ttrpc_secure.specs.Context.Calls.{FailsToOpen, FailsToSeal, FailsToSend, Seals, TellsUnsent, carrying, no_message, ownerless_frame};
 ghost use Rattle.ttrpc_secure.specs.Context.Texts.{advice_text};
 
 use crate::context::errors::{or_no_memory, unopened_error, unsafe_payload_error, unsealed_error};
@@ -218,7 +218,7 @@ impl<O: OutboundTransform, I: InboundTransform> ConnectionContext<O, I> {
     ) -> Result<()>
         // The payload was sealed and queued, and the message is empty.
         ensures ok { OnOk result
-            (SendsUnder O.OutboundTransform self.old.outbound outgoing.old (unowned msg.old.header)
+            (SendsUnder O.OutboundTransform self.old.outbound outgoing.old (ownerless_frame msg.old.header)
             msg.old.payload (associated msg.old.header) self.new.outbound outgoing.new) }
         ensures gone { OnOk result (msg.new ≡ no_message) }
         // Or an error was returned, and nothing changed.
@@ -229,7 +229,7 @@ impl<O: OutboundTransform, I: InboundTransform> ConnectionContext<O, I> {
             ((self.new ≡ self.old) × (msg.new ≡ msg.old) × (outgoing.new ≡ outgoing.old)) }
     {
         let aad = associated_bytes(&msg.header);
-        let frame = unowned(alloc, msg.header);
+        let frame = ownerless_frame(alloc, msg.header);
         let data = msg.payload.as_slice();
         match send_copy(alloc, &mut self.outbound, outgoing, frame, data, &aad) {
             Ok(()) => {
@@ -255,13 +255,13 @@ impl<O: OutboundTransform, I: InboundTransform> ConnectionContext<O, I> {
         header: MessageHeader,
     ) -> Result<()>
         ensures ok { OnOk result (SendsUnder O.OutboundTransform self.old.outbound outgoing.old
-            (unowned header) «data».now aad.now self.new.outbound outgoing.new) }
+            (ownerless_frame header) «data».now aad.now self.new.outbound outgoing.new) }
         ensures refused { IfErr result (FailsToSend O.OutboundTransform true [] self.old.outbound
             outgoing.old «data».now aad.now) }
         ensures rest { self.new ≡ record self.old { outbound = self.new.outbound } }
         ensures err { OnErr result ((self.new ≡ self.old) × (outgoing.new ≡ outgoing.old)) }
     {
-        let frame = unowned(alloc, header);
+        let frame = ownerless_frame(alloc, header);
         match send_copy(alloc, &mut self.outbound, outgoing, frame, data, aad) {
             Ok(()) => Ok(()),
             Err(unsent) => Err(unsent_error(alloc, &self.outbound, unsent, data.len(), true, "")),
@@ -284,8 +284,8 @@ fn carry(msg: &mut GenMessage, payload: Vec<u8>)
 
 /// Returns a frame with this header and no payload. The frame has no ticket, and isn't a unary request's. Takes no
 /// memory.
-fn unowned(alloc: Global, header: MessageHeader) -> Queued
-    ensures { result ≡ unowned header }
+fn ownerless_frame(alloc: Global, header: MessageHeader) -> Queued
+    ensures { result ≡ ownerless_frame header }
 {
     Queued {
         message: GenMessage {

@@ -6,23 +6,23 @@ ghost use Rattle.ttrpc_server.specs.State.{IsTaken, IsUnknown, is_stream, job_at
 ghost use Rattle.ttrpc_server.specs.declared.job.ActiveJob.{ActiveJob as AJob};
 ghost use Rattle.ttrpc_server.specs.Mailboxes.{ReceivesFrom};
 ghost use Rattle.ttrpc_server.specs.Streaming.{was_made};
-ghost use Rattle.ttrpc_server.specs.Table.{inlet_in};
+ghost use Rattle.ttrpc_server.specs.Table.{id_state_in};
 
 use crate::job::JobId;
 use crate::jobs::Jobs;
-use crate::rows::Inlet;
+use crate::rows::StreamIdState;
 use std::alloc::{AllocError, Global};
-use ttrpc_connection::{Failure, Thing};
+use ttrpc_connection::{Failure, MailboxEntry};
 use ttrpc_proto::Error;
 use ttrpc_wire::Blob;
 
 impl Jobs {
     /// Returns how the job of this id takes a frame under its stream id, if there is such a job.
-    pub(crate) fn inlet(&self, id: JobId) -> Option<Inlet>
-        ensures { result ≡ option_map (λ j. inlet_in j.body) (job_at self.now.list id) }
+    pub(crate) fn id_state(&self, id: JobId) -> Option<StreamIdState>
+        ensures { result ≡ option_map (λ j. id_state_in j.body) (job_at self.now.list id) }
     {
         match self.jobs.get(id) {
-            Some(job) => Some(job.body.inlet()),
+            Some(job) => Some(job.body.id_state()),
             None => None,
         }
     }
@@ -60,7 +60,12 @@ impl Jobs {
     }
 
     /// Puts a thing into the mailbox of this job, if it is a stream's. If `ends` is true the thing is the last. An `Err` changes nothing.
-    pub(crate) fn put(&mut self, id: JobId, thing: Thing, ends: bool) -> Result<(), AllocError>
+    pub(crate) fn put(
+        &mut self,
+        id: JobId,
+        thing: MailboxEntry,
+        ends: bool,
+    ) -> Result<(), AllocError>
         ensures ok { OnOk result (self.new
             ≡ record self.old { list = on_mail id (λ m. with_thing m thing ends) self.old.list }) }
         ensures err { OnErr result (self.new ≡ self.old) }

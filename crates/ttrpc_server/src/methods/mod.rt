@@ -124,7 +124,7 @@ impl<H: Drop> Methods<H> {
         ensures streams { IfOk result (λ registry. registry.streams ≡ []) }
     {
         let mut registry = Registry::new(alloc);
-        self.name_in(&mut registry, alloc, Named::Methods)?;
+        self.name_in(&mut registry, alloc, NameKind::Methods)?;
         Ok(registry)
     }
 
@@ -133,7 +133,7 @@ impl<H: Drop> Methods<H> {
         &self,
         registry: &mut Registry,
         alloc: Global,
-        named: Named,
+        named: NameKind,
     ) -> std::result::Result<(), AllocError>
         ensures names { OnOk result ((s m : List ℕ) → has_name (names_in named registry.new) s m
             ≡ (is_some (handler_of self.now s m) || has_name (names_in named registry.old) s m)) }
@@ -148,7 +148,7 @@ impl<H: Drop> Methods<H> {
 
 /// The kind of things that names are given to.
 #[derive(Clone, Copy, Debug, PartialEq, Eq)]
-pub enum Named {
+pub enum NameKind {
     /// Methods.
     Methods,
     /// Streams.
@@ -161,7 +161,7 @@ fn add_names<H>(
     alloc: Global,
     service: &str,
     names: &BTreeMap<String, H>,
-    named: Named,
+    named: NameKind,
 ) -> std::result::Result<(), AllocError>
     ensures names { OnOk result ((s m : List ℕ) → has_name (names_in named registry.new) s m
         ≡ ((bytes_eq s service.now && is_some (get_by_text names.now m))
@@ -187,7 +187,7 @@ fn add_name(
     alloc: Global,
     service: Text,
     name: Text,
-    named: Named,
+    named: NameKind,
 ) -> std::result::Result<(), AllocError>
     ensures name { OnOk result
         (AddsName (names_in named registry.old) service name (names_in named registry.new)) }
@@ -195,8 +195,8 @@ fn add_name(
     ensures err { OnErr result (registry.new ≡ registry.old) }
 {
     match named {
-        Named::Methods => registry.add_method(alloc, service, name),
-        Named::Streams => registry.add_stream(alloc, service, name),
+        NameKind::Methods => registry.add_method(alloc, service, name),
+        NameKind::Streams => registry.add_stream(alloc, service, name),
     }
 }
 

@@ -28,7 +28,7 @@ pub struct Loan {
 }
 
 /// The state under the lock of a connection, as its reader and its writers use it.
-pub trait Held: Drop {
+pub trait LockedState: Drop {
     /// The threads to wake for a piece.
     type Woken: Drop;
 
@@ -61,9 +61,9 @@ pub trait Held: Drop {
 }
 
 /// The state that the threads of a connection share.
-pub trait Connected: Drop {
+pub trait ConnectionLock: Drop {
     /// The state under the lock.
-    type Held: Held;
+    type Held: LockedState;
 
     fn held(&self) -> &Mutex<Self::Held>;
 
@@ -74,7 +74,7 @@ pub trait Connected: Drop {
     fn to_room(&self) -> &Condvar;
 
     /// Wakes these threads after a piece was taken.
-    fn wake(&self, woken: <Self::Held as Held>::Woken);
+    fn wake(&self, woken: <Self::Held as LockedState>::Woken);
 
     /// Wakes every thread after the connection has failed.
     fn wake_all(&self);
@@ -82,7 +82,7 @@ pub trait Connected: Drop {
 
 /// Releases the lock, waits until bytes were reported as written or the connection has failed, and locks again. The thread may also wake by
 /// itself.
-pub fn wait_for_room<'a, X: Wait, S: Connected>(
+pub fn wait_for_room<'a, X: Wait, S: ConnectionLock>(
     rt: &X,
     shared: &'a S,
     mut guard: MutexGuard<'a, S::Held>,

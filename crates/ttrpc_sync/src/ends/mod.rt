@@ -8,7 +8,7 @@ mod turn;
 mod write_end;
 
 pub use self::batch::{BATCH_BYTES, BATCH_LOANS, Batch};
-pub use self::connected::{Connected, Held, Loan, Taken, wait_for_room};
+pub use self::connected::{ConnectionLock, Loan, LockedState, Taken, wait_for_room};
 pub use self::read_end::ReadEnd;
-pub use self::turn::{Next, Turn};
+pub use self::turn::{Next, WriteTurn};
 pub use self::write_end::WriteEnd;

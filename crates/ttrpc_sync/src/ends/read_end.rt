@@ -2,7 +2,7 @@
 ghost use Rattle.std.specs.Prelude.{◌≡◌, ◌≤◌, ◌<◌, length, true, IfNone, IfSome, MatchBool};
 ghost use Rattle.ttrpc_sync.specs.declared.ports.PortState.{PortState};
 
-use crate::ends::connected::{Connected, Held, wait_for_room};
+use crate::ends::connected::{ConnectionLock, LockedState, wait_for_room};
 use crate::{PortState, ReadPort, lock_soon};
 use std::alloc::Global;
 use std::io;
@@ -10,7 +10,7 @@ use std::sync::Wait;
 
 /// The port of a reader. It wakes the threads that a piece concerns after it has released the lock.
 #[derive(Drop)]
-pub struct ReadEnd<'a, X: Wait, S: Connected> {
+pub struct ReadEnd<'a, X: Wait, S: ConnectionLock> {
     rt: &'a X,
     alloc: Global,
     shared: &'a S,
@@ -18,7 +18,7 @@ pub struct ReadEnd<'a, X: Wait, S: Connected> {
     state: PortState,
 }
 
-impl<X: Wait, S: Connected> ReadEnd<'_, X, S> {
+impl<X: Wait, S: ConnectionLock> ReadEnd<'_, X, S> {
     /// Returns whether the port's thread still has the turn to read. It has lost the turn if the last piece ended its
     /// reading.
     pub fn has_turn(&self) -> bool
@@ -41,7 +41,7 @@ impl<X: Wait, S: Connected> ReadEnd<'_, X, S> {
     }
 }
 
-impl<X: Wait, S: Connected> ReadPort for ReadEnd<'_, X, S> {
+impl<X: Wait, S: ConnectionLock> ReadPort for ReadEnd<'_, X, S> {
     ghost state = { λ p. p.state };
 
     fn begin(&mut self) {

@@ -5,7 +5,7 @@ ghost use Rattle.ttrpc_sync.specs.Turns.{given_back, next_of, turn_after, wakes_
 /// The turn to write, which at most one thread of a connection has. It lies under the connection's lock, so the thread that has the turn is
 /// the only writer.
 #[derive(Debug, Drop)]
-pub struct Turn {
+pub struct WriteTurn {
     /// True if a thread has the turn.
     pub is_taken: bool,
     /// True if the writer thread sleeps and hasn't been woken yet.
@@ -23,12 +23,12 @@ pub enum Next {
     Sleeps,
 }
 
-impl Turn {
+impl WriteTurn {
     /// Makes a turn that no thread has.
-    pub fn new() -> Turn
+    pub fn new() -> WriteTurn
         ensures { result ≡ record { is_taken = false; sleeps = false } }
     {
-        Turn {
+        WriteTurn {
             is_taken: false,
             sleeps: false,
         }

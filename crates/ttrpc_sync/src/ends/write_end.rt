@@ -4,7 +4,7 @@ ghost use Rattle.ttrpc_sync.specs.Batches.{is_due, with_loan};
 ghost use Rattle.ttrpc_sync.specs.declared.ports.PortState.{PortState};
 
 use crate::ends::batch::{BATCH_LOANS, Batch};
-use crate::ends::connected::{Connected, Held, Loan};
+use crate::ends::connected::{ConnectionLock, Loan, LockedState};
 use crate::ends::turn::Next;
 use crate::{PortState, WritePort, lock_soon, wait_soon};
 use std::io;
@@ -19,7 +19,7 @@ const NOTHING: Loan = Loan {
 /// The port of a writer. It reports written bytes together with the next loan, under one lock. If a batch is due, it lends nothing, so that
 /// the bytes written so far leave first, whatever else waits.
 #[derive(Drop)]
-pub struct WriteEnd<'a, X: Wait, S: Connected> {
+pub struct WriteEnd<'a, X: Wait, S: ConnectionLock> {
     rt: &'a X,
     shared: &'a S,
     loan: Loan,
@@ -30,7 +30,7 @@ pub struct WriteEnd<'a, X: Wait, S: Connected> {
     state: PortState,
 }
 
-impl<X: Wait, S: Connected> WriteEnd<'_, X, S> {
+impl<X: Wait, S: ConnectionLock> WriteEnd<'_, X, S> {
     /// Makes the port of the writer thread. It sleeps while there is nothing to write, or another thread has the turn. A batch leaves at
     /// the end of a frame once it has `BATCH_BYTES` bytes or `BATCH_LOANS` loans.
     pub fn staying<'a>(rt: &'a X, shared: &'a S) -> WriteEnd<'a, X, S>
@@ -118,7 +118,7 @@ impl<X: Wait, S: Connected> WriteEnd<'_, X, S> {
     }
 }
 
-impl<X: Wait, S: Connected> WritePort for WriteEnd<'_, X, S> {
+impl<X: Wait, S: ConnectionLock> WritePort for WriteEnd<'_, X, S> {
     ghost lent = { λ p. p.loan.count };
 
     ghost state = { λ p. p.state };

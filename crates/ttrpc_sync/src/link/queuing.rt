@@ -2,7 +2,7 @@
 ghost use Rattle.std.specs.Prelude.{◌≡◌};
 ghost use Rattle.ttrpc_sync.specs.Queuing.{queuing_of, turn_after_queuing};
 
-use crate::ends::Turn;
+use crate::ends::WriteTurn;
 
 /// The next action of a thread that has queued a frame, after it has released the lock.
 #[derive(Clone, Copy, Debug, PartialEq, Eq)]
@@ -17,7 +17,7 @@ pub enum AfterQueuing {
 
 /// Decides, under the lock, what the thread does next. It writes its frame itself if it may and no other thread has the
 /// turn.
-pub fn after_queuing(turn: &mut Turn, may_write: bool) -> AfterQueuing
+pub fn after_queuing(turn: &mut WriteTurn, may_write: bool) -> AfterQueuing
     ensures result { result ≡ queuing_of turn.old may_write }
     ensures turn { turn.new ≡ turn_after_queuing turn.old may_write }
 {

@@ -20,35 +20,36 @@ use ttrpc_client::{CallId, ClientCore};
 use ttrpc_proto::{Error, Request, Response, Result};
 use ttrpc_secure::{InboundTransform, OutboundTransform};
 use ttrpc_sync::{
-    Connected, Held, Loan, Next, ReadEnd, Taken, Turn, WriteEnd, lock_soon, wait_soon,
+    ConnectionLock, Loan, LockedState, Next, ReadEnd, Taken, WriteEnd, WriteTurn, lock_soon,
+    wait_soon,
 };
 
 /// The number of places at which callers wait. The id of a call decides its caller's place.
 const PLACES: usize = 16;
 
 /// The places at which a call has ended, one bit each.
-pub type Ended = u32;
+pub type EndedPlaces = u32;
 
 /// The threads to wake for a piece.
 #[derive(Clone, Copy, Debug)]
-pub struct Woken {
+pub struct ClientWakeSet {
     /// The callers at these places, since calls have ended there.
-    pub callers: Ended,
+    pub callers: EndedPlaces,
     /// True for the reader thread.
     pub reader: bool,
 }
 
 /// The port of one reader of a client. It wakes the callers of the calls that have ended.
-pub type ClientRead<'a, X, O, I> = ReadEnd<'a, X, ClientShared<O, I>>;
+pub type ClientRead<'a, X, O, I> = ReadEnd<'a, X, ClientLock<O, I>>;
 
 /// The port of one writer of a client.
-pub type ClientWrite<'a, X, O, I> = WriteEnd<'a, X, ClientShared<O, I>>;
+pub type ClientWrite<'a, X, O, I> = WriteEnd<'a, X, ClientLock<O, I>>;
 
 /// The state under the lock of a client's connection. All ids that its core keeps are odd, and below the next id.
 #[derive(Drop)]
 pub struct ClientHeld<O, I> {
     pub core: ClientCore<O, I>,
-    pub turn: Turn,
+    pub turn: WriteTurn,
     pub reading: ReadTurn,
     ghost pending: { IsClient core.state.next core.state.calls },
 }
@@ -63,7 +64,7 @@ impl<O: OutboundTransform + Drop, I: InboundTransform + Drop> ClientHeld<O, I> {
         core.lemma_is_client();
         ClientHeld {
             core,
-            turn: Turn::new(),
+            turn: WriteTurn::new(),
             reading: ReadTurn::new(),
         }
     }
@@ -114,7 +115,7 @@ impl<O: OutboundTransform + Drop, I: InboundTransform + Drop> ClientHeld<O, I> {
     }
 
     /// Reports the calls that have ended to the turn to read. Returns the places at which their callers wait.
-    pub fn note_ended(&mut self) -> Ended
+    pub fn note_ended(&mut self) -> EndedPlaces
         ensures told { TellsEnded self.old.core self.old.reading result
             self.new.core self.new.reading }
         ensures turn { self.new.turn ≡ self.old.turn }
@@ -178,23 +179,23 @@ impl<O: OutboundTransform + Drop, I: InboundTransform + Drop> ClientHeld<O, I> {
     }
 }
 
-impl<O: OutboundTransform + Drop, I: InboundTransform + Drop> Held for ClientHeld<O, I> {
-    type Woken = Woken;
+impl<O: OutboundTransform + Drop, I: InboundTransform + Drop> LockedState for ClientHeld<O, I> {
+    type Woken = ClientWakeSet;
 
-    fn take(&mut self, alloc: Global, piece: &[u8]) -> Option<Taken<Woken>>
+    fn take(&mut self, alloc: Global, piece: &[u8]) -> Option<Taken<ClientWakeSet>>
         ensures whole { IfSome result (λ taken. taken.count ≡ length piece.now) }
         ensures taken { TakesPiece O.OutboundTransform I.InboundTransform self.old.core
             self.old.reading piece.now result self.new.core self.new.reading }
         ensures turn { self.new.turn ≡ self.old.turn }
     {
         let (count, callers) = feed_piece(&mut self.core, &mut self.reading, alloc, piece)?;
-        let onward = self.reading.onward();
+        let reader_next = self.reading.reader_next();
         Some(Taken {
             count,
-            reads_on: onward.reads_on(),
-            woken: Woken {
+            reads_on: reader_next.reads_on(),
+            woken: ClientWakeSet {
                 callers,
-                reader: onward.hands_over(),
+                reader: reader_next.hands_over(),
             },
         })
     }
@@ -278,7 +279,7 @@ fn feed_piece<O: OutboundTransform + Drop, I: InboundTransform + Drop>(
     reading: &mut ReadTurn,
     alloc: Global,
     piece: &[u8],
-) -> Option<(usize, Ended)>
+) -> Option<(usize, EndedPlaces)>
     ensures pending { IsClient core.new.state.next core.new.state.calls }
     ensures whole { IfSome result (λ taken. taken.0 ≡ length piece.now) }
     ensures fed { IsFed O.OutboundTransform I.InboundTransform core.old reading.old piece.now
@@ -296,13 +297,13 @@ fn feed_piece<O: OutboundTransform + Drop, I: InboundTransform + Drop>(
 fn ended_places<O: OutboundTransform + Drop, I: InboundTransform + Drop>(
     core: &mut ClientCore<O, I>,
     reading: &mut ReadTurn,
-) -> Ended
+) -> EndedPlaces
     ensures told { TellsEnded core.old reading.old result core.new reading.new }
     ensures pending { IsClient core.new.state.next core.new.state.calls }
 {
     let mut places = 0;
     while let Some(id) = core.next_ended() {
-        reading.ended(id);
+        reading.end_call(id);
         places |= 1 << place_of(id);
     }
     core.lemma_is_client();
@@ -318,7 +319,7 @@ fn place_of(id: CallId) -> usize
 
 /// The state that the threads of a client's connection share. No thread reads or writes a socket while it holds the lock.
 #[derive(Drop)]
-pub struct ClientShared<O, I> {
+pub struct ClientLock<O, I> {
     held: Mutex<ClientHeld<O, I>>,
     to_write: Condvar,
     to_read: Condvar,
@@ -326,10 +327,10 @@ pub struct ClientShared<O, I> {
     callers: [Condvar; PLACES],
 }
 
-impl<O: OutboundTransform + Drop, I: InboundTransform + Drop> ClientShared<O, I> {
+impl<O: OutboundTransform + Drop, I: InboundTransform + Drop> ClientLock<O, I> {
     /// Makes the shared state of this core.
     pub fn new(core: ClientCore<O, I>) -> Self {
-        ClientShared {
+        ClientLock {
             held: Mutex::new(ClientHeld::new(core)),
             to_write: Condvar::new(),
             to_read: Condvar::new(),
@@ -395,7 +396,7 @@ impl<O: OutboundTransform + Drop, I: InboundTransform + Drop> ClientShared<O, I>
     }
 }
 
-impl<O: OutboundTransform + Drop, I: InboundTransform + Drop> Connected for ClientShared<O, I> {
+impl<O: OutboundTransform + Drop, I: InboundTransform + Drop> ConnectionLock for ClientLock<O, I> {
     type Held = ClientHeld<O, I>;
 
     fn held(&self) -> &Mutex<ClientHeld<O, I>> {
@@ -410,7 +411,7 @@ impl<O: OutboundTransform + Drop, I: InboundTransform + Drop> Connected for Clie
         &self.to_room
     }
 
-    fn wake(&self, woken: Woken) {
+    fn wake(&self, woken: ClientWakeSet) {
         let mut rest = woken.callers;
         for caller in self.callers.iter() {
             if rest == 0 {

@@ -3,5 +3,7 @@
 mod client;
 mod read_turn;
 
-pub use self::client::{ClientHeld, ClientRead, ClientShared, ClientWrite};
-pub use self::read_turn::{CALLS_TO_REST, LONE_FRAME, Manner, Onward, ReadTurn, Reader};
+pub use self::client::{ClientHeld, ClientLock, ClientRead, ClientWrite};
+pub use self::read_turn::{
+    CALLS_TO_REST, CallShape, CurrentReader, LONE_FRAME, ReadTurn, ReaderNext,
+};

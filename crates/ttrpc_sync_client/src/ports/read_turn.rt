@@ -1,6 +1,6 @@
 //! The turn to read.
 ghost use Rattle.std.specs.Prelude.{◌≡◌, true, false, if◌then◌else◌};
-ghost use Rattle.ttrpc_sync_client.specs.ReadTurns.{begun, ended, finished, hands_over, is_alone, is_free, may_rest, may_take, may_write, new_turn, onward_of, reads_on, turn_onward, turn_waking, wakes_thread};
+ghost use Rattle.ttrpc_sync_client.specs.ReadTurns.{begun, ended, finished, hands_over, is_alone, is_free, may_rest, may_take, may_write, new_turn, reader_next_of, reads_on, turn_reader_next, turn_waking, wakes_thread};
 
 use ttrpc_client::CallId;
 
@@ -14,7 +14,7 @@ pub const CALLS_TO_REST: u32 = 8;
 
 /// The reader of a client's connection.
 #[derive(Clone, Copy, Debug, PartialEq, Eq)]
-pub enum Reader {
+pub enum CurrentReader {
     /// No thread.
     Nobody,
     /// The reader thread.
@@ -25,7 +25,7 @@ pub enum Reader {
 
 /// The next action of a reader after a piece.
 #[derive(Clone, Copy, Debug, PartialEq, Eq)]
-pub enum Onward {
+pub enum ReaderNext {
     /// The reader reads on.
     Reads,
     /// The reader stops reading.
@@ -34,19 +34,19 @@ pub enum Onward {
     HandsOver,
 }
 
-impl Onward {
+impl ReaderNext {
     /// Returns whether the reader reads on.
     pub fn reads_on(self) -> bool
         ensures { result ≡ reads_on self }
     {
-        matches!(self, Onward::Reads)
+        matches!(self, ReaderNext::Reads)
     }
 
     /// Returns whether the reader thread is to be woken.
     pub fn hands_over(self) -> bool
         ensures { result ≡ hands_over self }
     {
-        matches!(self, Onward::HandsOver)
+        matches!(self, ReaderNext::HandsOver)
     }
 }
 
@@ -55,7 +55,7 @@ impl Onward {
 #[derive(Debug, Drop)]
 pub struct ReadTurn {
     /// The thread that has the turn.
-    pub reader: Reader,
+    pub reader: CurrentReader,
     /// True if the reader thread sleeps, and hasn't been woken yet.
     pub sleeps: bool,
     /// The number of calls under way. A call counts until its caller has the outcome.
@@ -68,9 +68,9 @@ pub struct ReadTurn {
     pub unread: Option<CallId>,
 }
 
-/// The manner in which a call is made.
+/// The shape of a call, which decides how the call is made.
 #[derive(Clone, Copy, Debug, PartialEq, Eq)]
-pub struct Manner {
+pub struct CallShape {
     /// True if the call may expire.
     pub has_deadline: bool,
     /// True if nothing waits to be written before the call's frame.
@@ -79,7 +79,7 @@ pub struct Manner {
     pub is_short: bool,
 }
 
-impl Manner {
+impl CallShape {
     /// Returns whether the caller may write for itself: it has no deadline, and nothing waits before its frame. If the caller isn't alone,
     /// another thread reads meanwhile, so a peer that writes before it reads blocks no thread.
     pub fn may_write(self) -> bool
@@ -95,7 +95,7 @@ impl ReadTurn {
         ensures { result ≡ new_turn }
     {
         ReadTurn {
-            reader: Reader::Nobody,
+            reader: CurrentReader::Nobody,
             sleeps: false,
             callers: 0,
             alone: 0,
@@ -106,12 +106,12 @@ impl ReadTurn {
 
     /// Begins a call. Returns whether its caller is alone, and so may write and read for itself. Neither can block the caller. The peer has
     /// read all bytes written before, so the socket has room for the call's short frame, and the call has no deadline.
-    pub fn begins(&mut self, id: CallId, manner: Manner) -> bool
-        ensures result { result ≡ is_alone self.old manner }
-        ensures turn { self.new ≡ begun self.old id (is_alone self.old manner) }
+    pub fn begin_call(&mut self, id: CallId, shape: CallShape) -> bool
+        ensures result { result ≡ is_alone self.old shape }
+        ensures turn { self.new ≡ begun self.old id (is_alone self.old shape) }
     {
         let is_first = self.unread.is_none() && self.callers == 0;
-        let is_alone = manner.is_short && is_first && manner.may_write();
+        let is_alone = shape.is_short && is_first && shape.may_write();
         self.callers = self.callers.saturating_add(1);
         self.alone = if is_alone {
             self.alone.saturating_add(1).min(CALLS_TO_REST)
@@ -124,11 +124,11 @@ impl ReadTurn {
     }
 
     /// Reports that a call has ended.
-    pub fn ended(&mut self, id: CallId)
+    pub fn end_call(&mut self, id: CallId)
         ensures { self.new ≡ ended self.old id }
     {
-        if self.reader == Reader::Caller(id) {
-            self.reader = Reader::Nobody;
+        if self.reader == CurrentReader::Caller(id) {
+            self.reader = CurrentReader::Nobody;
         }
         if self.last == Some(id) {
             self.last = None;
@@ -136,7 +136,7 @@ impl ReadTurn {
     }
 
     /// Reports that the caller of this call has its outcome. `is_answered` says that the outcome is the peer's answer.
-    pub fn finished(&mut self, id: CallId, is_answered: bool)
+    pub fn finish_call(&mut self, id: CallId, is_answered: bool)
         ensures { self.new ≡ finished self.old id is_answered }
     {
         self.callers = self.callers.saturating_sub(1);
@@ -150,12 +150,12 @@ impl ReadTurn {
     pub fn take(&mut self, id: CallId) -> bool
         ensures result { result ≡ may_take self.old id }
         ensures turn { self.new ≡ (if may_take self.old id
-            then record self.old { reader = Reader.Caller id } else self.old) }
+            then record self.old { reader = CurrentReader.Caller id } else self.old) }
     {
-        if self.reader != Reader::Nobody || self.last != Some(id) {
+        if self.reader != CurrentReader::Nobody || self.last != Some(id) {
             return false;
         }
-        self.reader = Reader::Caller(id);
+        self.reader = CurrentReader::Caller(id);
         true
     }
 
@@ -164,32 +164,32 @@ impl ReadTurn {
     pub fn thread_takes(&mut self) -> bool
         ensures result { result ≡ (if may_rest self.old then false else is_free self.old.reader) }
         ensures turn { self.new ≡ (if may_rest self.old then record self.old { sleeps = true }
-            else (if is_free self.old.reader then record self.old { reader = Reader.Thread }
+            else (if is_free self.old.reader then record self.old { reader = CurrentReader.Thread }
             else record self.old { sleeps = true })) }
     {
-        if self.may_rest() || self.reader != Reader::Nobody {
+        if self.may_rest() || self.reader != CurrentReader::Nobody {
             self.sleeps = true;
             return false;
         }
-        self.reader = Reader::Thread;
+        self.reader = CurrentReader::Thread;
         true
     }
 
     /// Returns the next action of the reader after a piece, which may have ended calls.
-    pub fn onward(&mut self) -> Onward
-        ensures result { result ≡ onward_of self.old.reader self.old }
-        ensures turn { self.new ≡ turn_onward (onward_of self.old.reader self.old) self.old }
+    pub fn reader_next(&mut self) -> ReaderNext
+        ensures result { result ≡ reader_next_of self.old.reader self.old }
+        ensures turn { self.new ≡ turn_reader_next (reader_next_of self.old.reader self.old) self.old }
     {
         match self.reader {
-            Reader::Caller(_) => Onward::Reads,
-            Reader::Thread if !self.may_rest() => Onward::Reads,
-            Reader::Nobody if self.sleeps && self.callers > 1 => {
+            CurrentReader::Caller(_) => ReaderNext::Reads,
+            CurrentReader::Thread if !self.may_rest() => ReaderNext::Reads,
+            CurrentReader::Nobody if self.sleeps && self.callers > 1 => {
                 self.sleeps = false;
-                Onward::HandsOver
+                ReaderNext::HandsOver
             }
-            Reader::Thread | Reader::Nobody => {
-                self.reader = Reader::Nobody;
-                Onward::Leaves
+            CurrentReader::Thread | CurrentReader::Nobody => {
+                self.reader = CurrentReader::Nobody;
+                ReaderNext::Leaves
             }
         }
     }
@@ -200,7 +200,7 @@ impl ReadTurn {
         ensures result { result ≡ wakes_thread self.old }
         ensures turn { self.new ≡ turn_waking self.old }
     {
-        if self.reader != Reader::Nobody || !self.sleeps {
+        if self.reader != CurrentReader::Nobody || !self.sleeps {
             return false;
         }
         self.sleeps = false;

@@ -11,14 +11,14 @@ use Rattle.ttrpc_server.specs.State.{waits}
 use Rattle.ttrpc_server.specs.Types.{Ends, TakesOrDrains}
 use Rattle.ttrpc_server.specs.declared.server.ServerCore.{ServerCore}
 use Rattle.ttrpc_sync.specs.Turns.{wakes_writer}
-use Rattle.ttrpc_sync.specs.declared.ends.turn.Turn.{Turn}
+use Rattle.ttrpc_sync.specs.declared.ends.turn.WriteTurn.{WriteTurn}
 use Rattle.ttrpc_sync.specs.declared.link.queuing.AfterQueuing.{AfterQueuing}
 use Rattle.ttrpc_sync.specs.declared.link.queuing.AfterQueuing.TheVariants.{Write}
-use Rattle.ttrpc_sync_server.specs.declared.connection.ports.relay.Relay.{Relay}
-use Rattle.ttrpc_sync_server.specs.declared.connection.ports.server.Woken.{Woken}
+use Rattle.ttrpc_sync_server.specs.declared.connection.ports.read_turn.ServerReadTurn.{ServerReadTurn}
+use Rattle.ttrpc_sync_server.specs.declared.connection.ports.server.ServerWakeSet.{ServerWakeSet}
 use Rattle.ttrpc_sync_server.specs.declared.connection.ports.backlog.Backlog.{Backlog}
 use Rattle.ttrpc_sync_server.specs.Connection.Backlogs.{is_full}
-use Rattle.ttrpc_sync_server.specs.Connection.Relays.{has_turn, relay_begun}
+use Rattle.ttrpc_sync_server.specs.Connection.ReadTurns.{has_turn, read_turn_begun}
 
 -- the number of jobs that wait
 abbrev pub waiting_of : {O I : Type 0} → ServerCore O I → ℕ
@@ -83,17 +83,17 @@ reported_to core n = record core { connection = record core.connection { outbox 
 -- ---- which threads are woken
 
 -- true if the reader of a piece handles its jobs itself: the piece was taken whole, jobs wait, and the other reader waits for the turn
-abbrev pub keeps_jobs : {O I : Type 0} → (is_whole : Bool) → ServerCore O I → Relay → Bool
-keeps_jobs is_whole core relay = if is_whole then (if nat_lt 0 (waiting_of core) then relay.other_waits else false) else false
+abbrev pub keeps_jobs : {O I : Type 0} → (is_whole : Bool) → ServerCore O I → ServerReadTurn → Bool
+keeps_jobs is_whole core read_turn = if is_whole then (if nat_lt 0 (waiting_of core) then read_turn.other_waits else false) else false
 
 -- true if such a reader reads on: it has a rest to hand over, or it handles no jobs, and not too much waits
-abbrev pub reads_on : {O I : Type 0} → (is_whole : Bool) → ServerCore O I → Relay → Backlog → Bool
-reads_on is_whole core relay backlog =
-    if is_whole then (if keeps_jobs true core relay then false else (if is_full backlog (waiting_of core) then false else true)) else true
+abbrev pub reads_on : {O I : Type 0} → (is_whole : Bool) → ServerCore O I → ServerReadTurn → Backlog → Bool
+reads_on is_whole core read_turn backlog =
+    if is_whole then (if keeps_jobs true core read_turn then false else (if is_full backlog (waiting_of core) then false else true)) else true
 
 -- the turn to read after that: a reader that handles jobs has begun a round
-abbrev pub relay_behind : (keeps : Bool) → Relay → Relay
-relay_behind keeps relay = if keeps then relay_begun relay else relay
+abbrev pub read_turn_behind : (keeps : Bool) → ServerReadTurn → ServerReadTurn
+read_turn_behind keeps read_turn = if keeps then read_turn_begun read_turn else read_turn
 
 -- true if one of the sleeping workers is woken: a job waits, and no worker is on its way
 abbrev pub calls_worker : {O I : Type 0} → ServerCore O I → (sleeping coming : ℕ) → Bool
@@ -101,13 +101,13 @@ calls_worker core sleeping coming =
     if nat_lt 0 (waiting_of core) then (if nat_lt 0 sleeping then nat_eq coming 0 else false) else false
 
 -- true if there is a reader, and it has the turn
-abbrev pub is_turn_of : Relay → Option ℕ → Bool
-is_turn_of relay None = false
-is_turn_of relay (Some reader) = has_turn relay reader
+abbrev pub is_turn_of : ServerReadTurn → Option ℕ → Bool
+is_turn_of read_turn None = false
+is_turn_of read_turn (Some reader) = has_turn read_turn reader
 
 -- true if a worker is woken for the next job, after this reader or a worker took one
-abbrev pub calls_for_next : {O I : Type 0} → ServerCore O I → Relay → (reader : Option ℕ) → (sleeping coming : ℕ) → Bool
-calls_for_next core relay reader sleeping coming = if is_turn_of relay reader then false else calls_worker core sleeping coming
+abbrev pub calls_for_next : {O I : Type 0} → ServerCore O I → ServerReadTurn → (reader : Option ℕ) → (sleeping coming : ℕ) → Bool
+calls_for_next core read_turn reader sleeping coming = if is_turn_of read_turn reader then false else calls_worker core sleeping coming
 
 -- the number of workers that sleep after that
 abbrev pub asleep : (calls : Bool) → ℕ → ℕ
@@ -119,11 +119,11 @@ on_their_way calls coming = if calls then 1 else coming
 
 -- The threads that are woken for a piece: a worker for a job that the reader leaves, and the writer thread if bytes wait. The other reader
 -- is woken if it sleeps and is to check how long jobs take.
-abbrev pub woken_for : {O I : Type 0} → ServerCore O I → (keeps : Bool) → (sleeping coming : ℕ) → Turn → Relay → Woken
-woken_for core keeps sleeping coming turn relay = record {
+abbrev pub woken_for : {O I : Type 0} → ServerCore O I → (keeps : Bool) → (sleeping coming : ℕ) → WriteTurn → ServerReadTurn → ServerWakeSet
+woken_for core keeps sleeping coming turn read_turn = record {
   worker = if keeps then false else calls_worker core sleeping coming;
   writer = wakes_writer turn (has_bytes core);
-  reader = if keeps then relay.other_sleeps else false;
+  reader = if keeps then read_turn.other_sleeps else false;
 }
 
 -- true if the thread that queued an answer writes it itself: more requests may come, nothing waited to be written before, no other job is

@@ -2,7 +2,7 @@
 -- Source: this project's.
 use Rattle.std.specs.Prelude.{◌-◌, ℕ, Bool, false, Option, Some, None, if◌then◌else◌}
 use Rattle.ttrpc_sync_server.specs.declared.connection.pause.Pause.{Pause}
-use Rattle.ttrpc_sync_server.specs.Connection.Relays.{is_number}
+use Rattle.ttrpc_sync_server.specs.Connection.ReadTurns.{is_number}
 
 -- The peer is inside a frame, and no piece has come since the last look.
 abbrev pub lasts : Pause → (pieces : Option ℕ) → Bool

@@ -5,22 +5,24 @@ ghost use Rattle.ttrpc_server.specs.Protocol.{QueuesResponse, RefusesResponse};
 ghost use Rattle.ttrpc_sync.specs.Queuing.{queuing_of, turn_after_queuing};
 ghost use Rattle.ttrpc_sync_server.specs.Connection.Held.{is_lone_answer, writes_behind};
 
-use crate::connection::crew::Crew;
-use crate::connection::ports::{ServerHeld, ServerShared};
+use crate::connection::ports::{ServerHeld, ServerLock};
+use crate::connection::thread_count::ThreadCount;
 use std::alloc::Global;
 use std::sync::Arc;
 use std::sync::atomic::{AtomicBool, Ordering};
 use ttrpc_proto::{Error, Response, Result};
 use ttrpc_secure::{ConnectionData, InboundTransform, OutboundTransform};
-use ttrpc_sync::{AfterQueuing, Connected, Host, Link, after_queuing, lock_soon, wait_for_room};
+use ttrpc_sync::{
+    AfterQueuing, ConnectionLock, Host, Link, after_queuing, lock_soon, wait_for_room,
+};
 
 /// A server's connection: its core under a lock, its data, and the threads that serve it.
 pub struct Conn<R: Host, O: OutboundTransform + Drop, I: InboundTransform + Drop> {
     rt: R,
-    link: Link<ServerShared<O, I>>,
+    link: Link<ServerLock<O, I>>,
     known: ConnectionData,
     cancelled: Arc<AtomicBool, Global>,
-    crew: Arc<Crew, Global>,
+    thread_count: Arc<ThreadCount, Global>,
 }
 
 /// Written out so that a crate above proves nothing about the parts that are dropped here.
@@ -31,18 +33,18 @@ impl<R: Host, O: OutboundTransform + Drop, I: InboundTransform + Drop> Drop for 
             link: _,
             known: _,
             cancelled: _,
-            crew: _,
+            thread_count: _,
         } = self;
     }
 }
 
 impl<R: Host, O: OutboundTransform + Drop, I: InboundTransform + Drop> Conn<R, O, I> {
-    /// Makes a connection over `link`, with its data, and the crew that is to serve it.
+    /// Makes a connection over `link`, with its data, and the count of the threads that are to serve it.
     pub fn new(
         rt: R,
-        link: Link<ServerShared<O, I>>,
+        link: Link<ServerLock<O, I>>,
         known: ConnectionData,
-        crew: Arc<Crew, Global>,
+        thread_count: Arc<ThreadCount, Global>,
     ) -> Result<Conn<R, O, I>>
         ensures known { IfOk result (λ conn. conn.known ≡ known) }
         ensures err { IfErr result (λ e. e ≡ NoMemory) }
@@ -53,7 +55,7 @@ impl<R: Host, O: OutboundTransform + Drop, I: InboundTransform + Drop> Conn<R, O
             link,
             known,
             cancelled,
-            crew,
+            thread_count,
         })
     }
 
@@ -73,7 +75,7 @@ impl<R: Host, O: OutboundTransform + Drop, I: InboundTransform + Drop> Conn<R, O
         &self.rt
     }
 
-    pub(crate) fn link(&self) -> &Link<ServerShared<O, I>> {
+    pub(crate) fn link(&self) -> &Link<ServerLock<O, I>> {
         &self.link
     }
 
@@ -81,8 +83,8 @@ impl<R: Host, O: OutboundTransform + Drop, I: InboundTransform + Drop> Conn<R, O
         &self.cancelled
     }
 
-    pub(crate) fn crew(&self) -> &Arc<Crew, Global> {
-        &self.crew
+    pub(crate) fn thread_count(&self) -> &Arc<ThreadCount, Global> {
+        &self.thread_count
     }
 
     /// Sets the flag by which handlers may give up: nothing comes from the client any more.
@@ -95,7 +97,7 @@ impl<R: Host, O: OutboundTransform + Drop, I: InboundTransform + Drop> Conn<R, O
         self.cancel();
         self.link.shared().end(&self.rt);
         self.link.close();
-        self.crew.end(&self.rt);
+        self.thread_count.end(&self.rt);
     }
 
     /// Takes no more requests. After the requests that came are answered, the writer thread ends the connection.
@@ -105,7 +107,7 @@ impl<R: Host, O: OutboundTransform + Drop, I: InboundTransform + Drop> Conn<R, O
         self.look();
     }
 
-    /// Ends the connection if it has failed. Reports to the crew if each request is answered and no more come.
+    /// Ends the connection if it has failed. Reports to the thread count if each request is answered and no more come.
     pub(crate) fn look(&self) {
         let guard = lock_soon(&self.rt, self.link.shared().held());
         let has_failed = guard.core.has_failed();
@@ -114,7 +116,7 @@ impl<R: Host, O: OutboundTransform + Drop, I: InboundTransform + Drop> Conn<R, O
         if has_failed {
             self.end();
         } else if is_answered {
-            self.crew.report_answered(&self.rt);
+            self.thread_count.report_answered(&self.rt);
         }
     }
 
@@ -123,10 +125,10 @@ impl<R: Host, O: OutboundTransform + Drop, I: InboundTransform + Drop> Conn<R, O
         let shared = self.link.shared();
         let mut guard = lock_soon(&self.rt, shared.held());
         for _ in self.rt.forever() {
-            match responded(&mut guard, self.rt.alloc(), stream_id, response) {
+            match queue_response(&mut guard, self.rt.alloc(), stream_id, response) {
                 Ok(next) => {
                     drop(guard);
-                    self.link.go_on(&self.rt, next);
+                    self.link.write_or_wake(&self.rt, next);
                     return Ok(());
                 }
                 Err(Error::NoRoom) => guard = wait_for_room(&self.rt, shared, guard),
@@ -140,7 +142,7 @@ impl<R: Host, O: OutboundTransform + Drop, I: InboundTransform + Drop> Conn<R, O
 /// Queues a response, and returns the next action of its thread. The thread writes the response itself if nothing else waits to be written,
 /// no other job is under way or waits, and more requests may come. While a connection ends, no handler waits for its own answer to be
 /// written.
-fn responded<O: OutboundTransform + Drop, I: InboundTransform + Drop>(
+fn queue_response<O: OutboundTransform + Drop, I: InboundTransform + Drop>(
     held: &mut ServerHeld<O, I>,
     alloc: Global,
     stream_id: u32,

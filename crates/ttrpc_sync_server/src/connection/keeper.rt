@@ -1,11 +1,11 @@
 //! The threads of one connection, from its first to its last.
 use crate::connection::conn::Conn;
 use crate::connection::context::MethodHandler;
-use crate::connection::crew::{Crew, Order};
 use crate::connection::pause::Pause;
 use crate::connection::reader::read;
-use crate::connection::serving::Serving;
+use crate::connection::serving::WatchedHandlers;
 use crate::connection::shared::SharedHandler;
+use crate::connection::thread_count::{Order, ThreadCount};
 use crate::connection::watch::SharedWatch;
 use crate::connection::worker::work;
 use crate::settings::Settings;
@@ -16,7 +16,7 @@ use std::thread::Builder;
 use std::time::Duration;
 use ttrpc_proto::{Error, Result};
 use ttrpc_secure::{InboundTransform, OutboundTransform, SendInbound, SendOutbound};
-use ttrpc_sync::{Connected, Host, Runtime, lock_soon, moment};
+use ttrpc_sync::{ConnectionLock, Host, Runtime, lock_soon, moment};
 use ttrpc_transport::Watch;
 
 /// The number of threads that read a connection in turn.
@@ -30,9 +30,9 @@ const SHORTEST_LIMIT: u64 = 4;
 /// When the server ends its connections, this one takes no more requests. It closes after the answers to the requests that came have left,
 /// or when the server's close limit has passed since the last answer. If the peer pauses inside a frame for longer than the server's frame
 /// limit, the connection fails.
-pub fn keep<R, O, I, H, W>(
+pub fn run_connection<R, O, I, H, W>(
     conn: &Arc<Conn<R, O, I>, Global>,
-    serving: &Serving<H, W>,
+    serving: &WatchedHandlers<H, W>,
     settings: &Settings,
 )
 where
@@ -49,11 +49,14 @@ where
     }
     let mut pause = Pause::new();
     for _ in rt.forever() {
-        match conn.crew().next_order(rt, rest_between_looks(settings)) {
+        match conn
+            .thread_count()
+            .next_order(rt, rest_between_looks(settings))
+        {
             Order::Fill => fill(conn, serving),
             Order::Drain => conn.drain(),
             Order::Flush => {
-                conn.crew().wait_for_end(rt, settings.close_limit);
+                conn.thread_count().wait_for_end(rt, settings.close_limit);
                 break;
             }
             Order::Look => {}
@@ -64,7 +67,7 @@ where
         }
     }
     conn.end();
-    conn.crew().wait_for_all(rt);
+    conn.thread_count().wait_for_all(rt);
 }
 
 /// Returns how long the keeper waits between two looks, if the peer's pauses are limited: a quarter of the limit.
@@ -96,7 +99,7 @@ where
 }
 
 /// Starts the missing workers. If the system has no more threads, the present workers go on.
-fn fill<R, O, I, H, W>(conn: &Arc<Conn<R, O, I>, Global>, serving: &Serving<H, W>)
+fn fill<R, O, I, H, W>(conn: &Arc<Conn<R, O, I>, Global>, serving: &WatchedHandlers<H, W>)
 where
     R: Runtime,
     O: SendOutbound,
@@ -110,19 +113,19 @@ where
     }
 }
 
-/// The parts that a thread of a connection holds: the connection, and the crew that counts the thread until it has released the connection.
+/// The parts that a thread of a connection holds: the connection, and the count of threads, which has the thread until it has released the connection.
 #[derive(Drop)]
-struct Seat<R: Host, O: OutboundTransform + Drop, I: InboundTransform + Drop> {
+struct ThreadShare<R: Host, O: OutboundTransform + Drop, I: InboundTransform + Drop> {
     conn: Arc<Conn<R, O, I>, Global>,
-    crew: Arc<Crew, Global>,
+    thread_count: Arc<ThreadCount, Global>,
     rt: R,
 }
 
-impl<R: Host, O: OutboundTransform + Drop, I: InboundTransform + Drop> Seat<R, O, I> {
-    fn new(conn: &Arc<Conn<R, O, I>, Global>) -> Result<Seat<R, O, I>> {
-        Ok(Seat {
+impl<R: Host, O: OutboundTransform + Drop, I: InboundTransform + Drop> ThreadShare<R, O, I> {
+    fn new(conn: &Arc<Conn<R, O, I>, Global>) -> Result<ThreadShare<R, O, I>> {
+        Ok(ThreadShare {
             conn: Arc::try_clone(conn)?,
-            crew: Arc::try_clone(conn.crew())?,
+            thread_count: Arc::try_clone(conn.thread_count())?,
             rt: conn.rt().clone()?,
         })
     }
@@ -130,15 +133,19 @@ impl<R: Host, O: OutboundTransform + Drop, I: InboundTransform + Drop> Seat<R, O
     // Reports that the thread has done its work, after it has released the connection. So the descriptor is free once all threads have
     // left.
     fn leave(self) {
-        let Seat { conn, crew, rt } = self;
+        let ThreadShare {
+            conn,
+            thread_count,
+            rt,
+        } = self;
         drop(conn);
-        crew.leaves(&rt);
+        thread_count.leaves(&rt);
     }
 }
 
 fn start_all<R, O, I, H, W>(
     conn: &Arc<Conn<R, O, I>, Global>,
-    serving: &Serving<H, W>,
+    serving: &WatchedHandlers<H, W>,
     workers: usize,
 ) -> Result<()>
 where
@@ -156,7 +163,7 @@ where
 }
 
 /// Passes on the result of a start, and counts the thread out if the start failed.
-fn started<R, O, I, T>(conn: &Conn<R, O, I>, thread: io::Result<T>) -> Result<()>
+fn check_spawned<R, O, I, T>(conn: &Conn<R, O, I>, thread: io::Result<T>) -> Result<()>
 where
     R: Host,
     O: OutboundTransform + Drop,
@@ -166,7 +173,7 @@ where
     match thread {
         Ok(_) => Ok(()),
         Err(error) => {
-            conn.crew().leaves(conn.rt());
+            conn.thread_count().leaves(conn.rt());
             Err(Error::Nix(error.kind()))
         }
     }
@@ -174,7 +181,7 @@ where
 
 fn start_reader<R, O, I, H, W>(
     conn: &Arc<Conn<R, O, I>, Global>,
-    serving: &Serving<H, W>,
+    serving: &WatchedHandlers<H, W>,
     reader: u32,
 ) -> Result<()>
 where
@@ -184,15 +191,15 @@ where
     H: SharedHandler<R, O, I>,
     W: SharedWatch,
 {
-    let seat = Seat::new(conn)?;
+    let thread_share = ThreadShare::new(conn)?;
     let serving = serving.try_clone()?;
-    conn.crew().joins(conn.rt());
-    started(
+    conn.thread_count().joins(conn.rt());
+    check_spawned(
         &**conn,
         Builder::new().spawn(conn.rt(), move || {
-            read_on(&seat.conn, &serving, reader);
+            run_reader(&thread_share.conn, &serving, reader);
             drop(serving);
-            seat.leave();
+            thread_share.leave();
         }),
     )
 }
@@ -203,13 +210,13 @@ where
     O: SendOutbound,
     I: SendInbound,
 {
-    let seat = Seat::new(conn)?;
-    conn.crew().joins(conn.rt());
-    started(
+    let thread_share = ThreadShare::new(conn)?;
+    conn.thread_count().joins(conn.rt());
+    check_spawned(
         &**conn,
         Builder::new().spawn(conn.rt(), move || {
-            write(&*seat.conn);
-            seat.leave();
+            write(&*thread_share.conn);
+            thread_share.leave();
         }),
     )
 }
@@ -217,7 +224,7 @@ where
 /// Starts `count` workers, or as many as can be started.
 fn start_workers<R, O, I, H, W>(
     conn: &Arc<Conn<R, O, I>, Global>,
-    serving: &Serving<H, W>,
+    serving: &WatchedHandlers<H, W>,
     count: usize,
 ) -> Result<()>
 where
@@ -228,11 +235,11 @@ where
     W: SharedWatch,
 {
     let shared = conn.link().shared();
-    shared.held().lock(conn.rt()).starts(count);
+    shared.held().lock(conn.rt()).add_starting(count);
     for begun in 0..count {
         let worker = start_worker(conn, serving);
         if worker.is_err() {
-            shared.held().lock(conn.rt()).gives_up(count - begun);
+            shared.held().lock(conn.rt()).remove_starting(count - begun);
             return worker;
         }
     }
@@ -241,7 +248,7 @@ where
 
 fn start_worker<R, O, I, H, W>(
     conn: &Arc<Conn<R, O, I>, Global>,
-    serving: &Serving<H, W>,
+    serving: &WatchedHandlers<H, W>,
 ) -> Result<()>
 where
     R: Runtime,
@@ -250,20 +257,24 @@ where
     H: SharedHandler<R, O, I>,
     W: SharedWatch,
 {
-    let seat = Seat::new(conn)?;
+    let thread_share = ThreadShare::new(conn)?;
     let serving = serving.try_clone()?;
-    conn.crew().joins(conn.rt());
-    started(
+    conn.thread_count().joins(conn.rt());
+    check_spawned(
         &**conn,
         Builder::new().spawn(conn.rt(), move || {
-            work_on(&seat.conn, &serving);
+            work_on(&thread_share.conn, &serving);
             drop(serving);
-            seat.leave();
+            thread_share.leave();
         }),
     )
 }
 
-fn read_on<R, O, I, H, W>(conn: &Arc<Conn<R, O, I>, Global>, serving: &Serving<H, W>, reader: u32)
+fn run_reader<R, O, I, H, W>(
+    conn: &Arc<Conn<R, O, I>, Global>,
+    serving: &WatchedHandlers<H, W>,
+    reader: u32,
+)
 where
     R: Host,
     O: OutboundTransform + Drop,
@@ -288,7 +299,7 @@ where
     conn.end();
 }
 
-fn work_on<R, O, I, H, W>(conn: &Arc<Conn<R, O, I>, Global>, serving: &Serving<H, W>)
+fn work_on<R, O, I, H, W>(conn: &Arc<Conn<R, O, I>, Global>, serving: &WatchedHandlers<H, W>)
 where
     R: Host,
     O: OutboundTransform + Drop,

@@ -4,23 +4,23 @@
 
 mod conn;
 mod context;
-mod crew;
 mod keeper;
 mod pause;
 pub mod ports;
 mod reader;
 mod serving;
 mod shared;
+mod thread_count;
 mod watch;
 mod worker;
 
 pub use self::conn::Conn;
 pub use self::context::{MethodHandler, TtrpcContext, response_error_to_channel, send_response};
-pub use self::crew::Crew;
-pub use self::keeper::keep;
+pub use self::keeper::run_connection;
 pub use self::ports::{
-    AtTurn, Backlog, Relay, ServerHeld, ServerJobs, ServerRead, ServerShared, ServerWrite,
+    AtTurn, Backlog, ServerHeld, ServerJobs, ServerLock, ServerRead, ServerReadTurn, ServerWrite,
 };
-pub use self::serving::Serving;
+pub use self::serving::WatchedHandlers;
 pub use self::shared::SharedHandler;
+pub use self::thread_count::ThreadCount;
 pub use self::watch::SharedWatch;

@@ -2,7 +2,7 @@
 use crate::connection::conn::Conn;
 use crate::connection::context::MethodHandler;
 use crate::connection::ports::ServerRead;
-use crate::connection::serving::Serving;
+use crate::connection::serving::WatchedHandlers;
 use crate::connection::worker::Dispatch;
 use std::alloc::Global;
 use std::sync::{Arc, Wait};
@@ -13,7 +13,11 @@ use ttrpc_transport::Watch;
 /// Reads until the client sends nothing more, or the connection has failed. Requests that were read are still answered. While the other
 /// reader waits for the turn, this reader handles the jobs of its input itself, since waking a worker takes longer than most jobs do.
 /// `reader` is the number by which it has the turn.
-pub fn read<R, O, I, H, W>(conn: &Arc<Conn<R, O, I>, Global>, serving: &Serving<H, W>, reader: u32)
+pub fn read<R, O, I, H, W>(
+    conn: &Arc<Conn<R, O, I>, Global>,
+    serving: &WatchedHandlers<H, W>,
+    reader: u32,
+)
 where
     R: Host,
     O: OutboundTransform + Drop,
@@ -29,7 +33,7 @@ where
         if !shared.wait_to_read(rt, reader) {
             return;
         }
-        link.read_on(rt, &mut port);
+        link.run_reader(rt, &mut port);
         // If the loop ended with the turn, nothing more is read, and the other reader waits for the end. Otherwise this reader
         // handles jobs or waits for room.
         if port.has_turn() || dispatch.handle_waiting(reader) {

@@ -6,14 +6,14 @@ use crate::connection::context::{
     MethodHandler, TtrpcContext, response_error_to_channel, send_response,
 };
 use crate::connection::ports::{ServerJobs, report, waiting_job};
-use crate::connection::serving::Serving;
+use crate::connection::serving::WatchedHandlers;
 use std::alloc::Global;
 use std::sync::Arc;
 use ttrpc_proto::Result;
 use ttrpc_secure::{InboundTransform, OutboundTransform};
 use ttrpc_server::Job;
 use ttrpc_server::responses::path_response;
-use ttrpc_sync::{Connected, Gate, Handler, Host, lock_soon, work_loop};
+use ttrpc_sync::{ConnectionLock, Gate, Handler, Host, lock_soon, work_loop};
 use ttrpc_transport::Watch;
 
 /// A handler that hands each request to the handler of its method.
@@ -27,7 +27,7 @@ pub struct Dispatch<
     W: Drop,
 > {
     conn: &'a Arc<Conn<R, O, I>, Global>,
-    serving: &'a Serving<H, W>,
+    serving: &'a WatchedHandlers<H, W>,
 }
 
 impl<R, O, I, H, W> Handler for Dispatch<'_, R, O, I, H, W>
@@ -85,7 +85,7 @@ where
     /// Makes the handler of this connection's jobs.
     pub fn new<'a>(
         conn: &'a Arc<Conn<R, O, I>, Global>,
-        serving: &'a Serving<H, W>,
+        serving: &'a WatchedHandlers<H, W>,
     ) -> Dispatch<'a, R, O, I, H, W>
         ensures { (result.conn.now ≡ conn.now) × (result.serving.now ≡ serving.now) }
     {
@@ -128,7 +128,7 @@ impl<R: Host, O: OutboundTransform + Drop, I: InboundTransform + Drop> Gate
         let is_answered = guard.is_answered();
         drop(guard);
         if is_answered {
-            self.conn.crew().report_answered(self.conn.rt());
+            self.conn.thread_count().report_answered(self.conn.rt());
         }
         self.is_new = false;
         self.is_shut = !entered;
@@ -139,13 +139,13 @@ impl<R: Host, O: OutboundTransform + Drop, I: InboundTransform + Drop> Gate
         let shared = self.conn.link().shared();
         let is_short = lock_soon(self.conn.rt(), shared.held()).leave();
         if is_short {
-            self.conn.crew().report_shortage(self.conn.rt());
+            self.conn.thread_count().report_shortage(self.conn.rt());
         }
     }
 }
 
 /// Handles the connection's jobs, until the gate sends the worker away or the connection has failed.
-pub fn work<R, O, I, H, W>(conn: &Arc<Conn<R, O, I>, Global>, serving: &Serving<H, W>)
+pub fn work<R, O, I, H, W>(conn: &Arc<Conn<R, O, I>, Global>, serving: &WatchedHandlers<H, W>)
 where
     R: Host,
     O: OutboundTransform + Drop,

@@ -5,13 +5,13 @@ use std::io::Read;
 use std::net::{TcpListener, TcpStream};
 use std::process::Abort;
 use std::test::Fail;
-use ttrpc_echo::{System, run};
+use ttrpc_echo::{DemoSystem, run};
 use ttrpc_proto::Error;
 
 /// The parts of the system that a test of runs uses.
-pub trait Tester: System + Abort {}
+pub trait Tester: DemoSystem + Abort {}
 
-impl<R: System + Abort> Tester for R {}
+impl<R: DemoSystem + Abort> Tester for R {}
 
 /// The borrow check covers a run over a host's sockets only if the function that calls it names their types.
 pub type Sockets = Option<(TcpListener, TcpStream)>;
@@ -44,7 +44,7 @@ pub fn words_of(alloc: Global, words: &[&str]) -> Result<Vec<String>, Fail> {
 
 /// Runs the program with room for this number of bytes of output. It is an error if a run ends because memory was
 /// refused.
-pub fn run_words<S: System + 'static, R: Read>(
+pub fn run_words<S: DemoSystem + 'static, R: Read>(
     rt: &S,
     words: &[String],
     input: &mut R,

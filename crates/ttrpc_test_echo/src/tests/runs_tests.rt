@@ -4,7 +4,7 @@ use crate::tests::vectors::*;
 use crate::tests::{Holds, Tested};
 use std::test::Fail;
 use ttrpc_bench::{AT_ONCE, Manner, StdReader};
-use ttrpc_echo::System;
+use ttrpc_echo::DemoSystem;
 use ttrpc_wire::values::slices::front;
 
 /// A run: the words, the input, whether it is read to its end or not at all, the status, the output and the errors.
@@ -142,7 +142,7 @@ fn a_frame_that_is_too_long_is_answered_behind_it(rt: HostRuntime) -> Tested {
 }
 
 /// Runs a call of the program's own server with `count` bytes 77.
-fn sevens<S: System + 'static>(rt: &S, count: usize, room: usize) -> Result<Ran, Fail> {
+fn sevens<S: DemoSystem + 'static>(rt: &S, count: usize, room: usize) -> Result<Ran, Fail> {
     let alloc = rt.alloc();
     let digits = vec![in alloc; b'7'; count.saturating_mul(2)]?;
     let digits = String::from_utf8(digits).map_err(|_| Fail::from("not UTF-8"))?;

@@ -6,7 +6,7 @@ use std::alloc::{AllocError, Global};
 use std::test::Fail;
 use ttrpc_bench::checks::{Tested, check, check_row};
 use ttrpc_proto::{MESSAGE_LENGTH_MAX, Outgoing};
-use ttrpc_secure::sending::{Parts, SendError, associated_bytes, send};
+use ttrpc_secure::sending::{DataParts, SendError, associated_bytes, send};
 use ttrpc_secure::{InboundTransform, OutboundTransform, Plain, TransformError};
 
 /// Returns whether the one half seals the data to `expected`, and the other half opens that to `data`.
@@ -93,7 +93,7 @@ fn send_sevens(
 ) -> Result<Result<(), SendError>, Fail> {
     let data = vec![in alloc; 7; length]?;
     let frame = queued_of(alloc, &FrameRow(0, 1, 3, 0, b""), None)?;
-    let parts = Parts::whole(data.as_slice());
+    let parts = DataParts::whole(data.as_slice());
     Ok(send(alloc, &mut Plain {}, outgoing, frame, parts))
 }
 

@@ -13,8 +13,8 @@ use std::thread::{Builder, Threads};
 use std::time::{Clock, Duration};
 use tokio::runtime::LocalRuntime;
 use ttrpc_bench::checks::check_named;
-use ttrpc_echo::Echo;
-use ttrpc_polled_echo::{System, nix};
+use ttrpc_echo::EchoHandler;
+use ttrpc_polled_echo::{ChatSystem, nix};
 use ttrpc_polled_server::Watch;
 use ttrpc_proto::{Error, Result};
 use ttrpc_secure::{AcceptHook, HookError, HookOutput, Plain};
@@ -112,7 +112,7 @@ fn make_shifted<R: Clock + Clone + AllocGlobal>(rt: &R) -> Result<(Shifted<R>, S
 }
 
 /// Serves one connection with that hook, and counts its refusals.
-fn serve_slowly<R: System>(
+fn serve_slowly<R: ChatSystem>(
     rt: &R,
     listener: TcpListener,
     count: Arc<AtomicU64, Global>,
@@ -128,7 +128,7 @@ fn serve_slowly<R: System>(
 }
 
 /// Starts that server at a free port.
-fn start_slow<R: System + Threads + Send + 'static>(
+fn start_slow<R: ChatSystem + Threads + Send + 'static>(
     rt: &R,
     count: Arc<AtomicU64, Global>,
 ) -> std::result::Result<Served, Fail> {
@@ -156,7 +156,10 @@ fn a_hook_that_answers_at_its_limit_comes_too_late(
 type Late<R> = (Shifted<R>, Global);
 
 /// The server with threads and that hook, and its address.
-type Threaded<R> = (ThreadedServer<Late<R>, Echo, Slow, Refusals>, SocketAddr);
+type Threaded<R> = (
+    ThreadedServer<Late<R>, EchoHandler, Slow, Refusals>,
+    SocketAddr,
+);
 
 /// Starts a server with threads and that hook at a free port, and counts its refusals.
 fn start_threaded<R: Runtime>(
@@ -168,7 +171,7 @@ fn start_threaded<R: Runtime>(
     let address = nix(listener.local_addr())?;
     let (clock, hook) = make_shifted(rt)?;
     let mut methods = BTreeMap::new(alloc);
-    methods.insert(String::from_str(alloc, "/demo.Echo/Echo")?, Echo {})?;
+    methods.insert(String::from_str(alloc, "/demo.Echo/Echo")?, EchoHandler {})?;
     let mut server = ThreadedServer::new((clock, alloc))?
         .register_service(methods)?
         .set_accept_hook(hook)?

@@ -4,8 +4,8 @@ use std::alloc::Global;
 use std::net::{SocketAddr, TcpListener, TcpStream};
 use std::test::Fail;
 use ttrpc_bench::checks::check_named;
-use ttrpc_echo::{System as ThreadedSystem, start_server};
-use ttrpc_polled_echo::System;
+use ttrpc_echo::{DemoSystem as ThreadedSystem, start_server};
+use ttrpc_polled_echo::ChatSystem;
 use ttrpc_sync_server::NoWatch;
 
 /// The caller: a client with threads, by the words of `ttrpc-demo`, or a polled one, by those of `ttrpc-chat`.
@@ -95,7 +95,7 @@ fn words_of(alloc: Global, first: &str, address: &str, rest: &[&str]) -> Result<
 }
 
 /// Returns whether a run has its status and output.
-fn is_so<R: ThreadedSystem + System + 'static>(
+fn is_so<R: ThreadedSystem + ChatSystem + 'static>(
     rt: &R,
     address: &str,
     run: &Run,
@@ -156,7 +156,7 @@ fn both_clients_call_a_server_with_threads(rt: HostRuntime) -> Result<(), Fail> 
 }
 
 /// Returns whether the words are refused with the usage.
-fn is_refused<R: System>(rt: &R, words: [&str; 3]) -> Result<bool, Fail> {
+fn is_refused<R: ChatSystem>(rt: &R, words: [&str; 3]) -> Result<bool, Fail> {
     let [first, address, rest] = words;
     let words = words_of(rt.alloc(), first, address, &[rest])?;
     let (mut output, mut errors) = (Vec::new(rt.alloc()), Vec::new(rt.alloc()));
@@ -182,7 +182,7 @@ fn wrong_words_have_a_status_of_their_own(rt: HostRuntime) -> Result<(), Fail> {
 }
 
 /// Returns whether a server that serves for zero seconds reports its address, shuts down, and ends with status 0.
-fn serves_for_no_second<R: System>(rt: &R) -> Result<bool, Fail> {
+fn serves_for_no_second<R: ChatSystem>(rt: &R) -> Result<bool, Fail> {
     let words = words_of(rt.alloc(), "serve", "tcp://127.0.0.1:0", &["0"])?;
     let (mut output, mut errors) = (Vec::new(rt.alloc()), Vec::new(rt.alloc()));
     let mine = rt.clone()?;

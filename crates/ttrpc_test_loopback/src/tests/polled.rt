@@ -7,7 +7,7 @@ use std::time::Duration;
 use tokio::net::TcpListener as PolledListener;
 use tokio::runtime::{Handle, LocalRuntime};
 use ttrpc_polled::{Listener, Timed};
-use ttrpc_polled_echo::{EchoServer, System, nix, services};
+use ttrpc_polled_echo::{ChatServer, ChatSystem, nix, services};
 use ttrpc_polled_server::Server;
 use ttrpc_proto::Result;
 
@@ -19,7 +19,7 @@ pub struct Served {
 }
 
 /// Starts a server of `count` connections at a free port.
-pub fn start_polled<R: System + Threads + Send + 'static>(
+pub fn start_polled<R: ChatSystem + Threads + Send + 'static>(
     rt: &R,
     count: usize,
 ) -> std::result::Result<Served, Fail> {
@@ -30,7 +30,7 @@ pub fn start_polled<R: System + Threads + Send + 'static>(
     Ok(Served { address, thread })
 }
 
-fn serve<R: System>(rt: &R, listener: TcpListener, count: usize) -> Result<()> {
+fn serve<R: ChatSystem>(rt: &R, listener: TcpListener, count: usize) -> Result<()> {
     let mut runtime = nix(LocalRuntime::new(rt))?;
     // Connections that don't end are dropped then.
     runtime.set_shutdown_timeout(Some(Duration::from_secs(60)));
@@ -44,7 +44,7 @@ pub fn server_of<R: Timed>(
     rt: &R,
     handle: &Handle,
     listener: TcpListener,
-) -> Result<EchoServer<R>> {
+) -> Result<ChatServer<R>> {
     let listener = nix(PolledListener::from_std(listener, handle.reactor()))?;
     Ok(
         Server::new(rt.clone()?, handle)?

@@ -10,7 +10,7 @@ use std::test::Fail;
 use std::thread::{self, Builder, Threads};
 use std::time::Duration;
 use ttrpc_echo::start_server;
-use ttrpc_polled_echo::System;
+use ttrpc_polled_echo::ChatSystem;
 use ttrpc_sync_server::NoWatch;
 
 /// The number of requests, and the number of bytes of each that are echoed. All answers together are more than the
@@ -63,7 +63,7 @@ fn hear_all(alloc: Global, stream: &mut TcpStream) -> Result<usize, Fail> {
 }
 
 /// Sends all requests, and reads the answers after the server can take no more. After that it closes its half.
-fn sends_first<R: System + Connects + Threads + Send + 'static>(
+fn sends_first<R: ChatSystem + Connects + Threads + Send + 'static>(
     rt: &R,
     address: SocketAddr,
 ) -> Result<usize, Fail> {

@@ -10,7 +10,7 @@ use std::thread::{Builder, Threads};
 use std::time::Duration;
 use tokio::runtime::LocalRuntime;
 use ttrpc_bench::checks::check_named;
-use ttrpc_polled_echo::{EchoMethod, EchoServer, EchoStream, System, services};
+use ttrpc_polled_echo::{ChatServer, ChatSystem, EchoMethod, EchoStream, services};
 use ttrpc_polled_server::Server;
 use ttrpc_proto::Error;
 
@@ -29,10 +29,10 @@ fn a_server_without_a_listener_does_not_start(rt: HostRuntime) -> Result<(), Fai
 }
 
 /// Returns a server at a free port.
-fn listening<R: System>(
+fn listening<R: ChatSystem>(
     rt: &R,
     runtime: &LocalRuntime,
-) -> Result<(EchoServer<R>, SocketAddr), Fail> {
+) -> Result<(ChatServer<R>, SocketAddr), Fail> {
     let listener = TcpListener::bind(rt, "127.0.0.1:0")?;
     let address = listener.local_addr()?;
     Ok((server_of(rt, runtime.handle(), listener)?, address))
@@ -53,10 +53,10 @@ fn services_are_fixed_once_a_server_has_started(rt: HostRuntime) -> Result<(), F
 }
 
 /// Stops a server that listens, and then one that doesn't, which stops at once.
-fn stop_twice<R: System>(
+fn stop_twice<R: ChatSystem>(
     rt: &R,
     runtime: &mut LocalRuntime,
-    server: &mut EchoServer<R>,
+    server: &mut ChatServer<R>,
 ) -> Result<(), Fail> {
     let serving = server.start()?;
     let stopped = server.stop_listen()?;
@@ -67,10 +67,10 @@ fn stop_twice<R: System>(
 }
 
 /// Serves one connection, of a client that calls from another thread. Returns whether the client is answered.
-fn serve_one<R: System + Connects + Threads + Send + 'static>(
+fn serve_one<R: ChatSystem + Connects + Threads + Send + 'static>(
     rt: &R,
     runtime: &mut LocalRuntime,
-    server: &mut EchoServer<R>,
+    server: &mut ChatServer<R>,
     address: SocketAddr,
 ) -> Result<bool, Fail> {
     let mine = rt.clone()?;
@@ -91,10 +91,10 @@ fn a_server_starts_again_behind_a_stop(rt: HostRuntime) -> Result<(), Fail> {
 }
 
 /// Starts a server, and shuts it down at once.
-fn start_and_end<R: System>(
+fn start_and_end<R: ChatSystem>(
     rt: &R,
     runtime: &mut LocalRuntime,
-    server: &mut EchoServer<R>,
+    server: &mut ChatServer<R>,
 ) -> Result<(), Fail> {
     let serving = server.start()?;
     let shut_down = server.shutdown()?;
@@ -113,10 +113,10 @@ fn a_server_that_is_shut_down_closes_its_listener(rt: HostRuntime) -> Result<(),
 }
 
 /// Returns whether a server that shuts down reports within two seconds that waiters are left.
-fn leaves_something<R: System>(
+fn leaves_something<R: ChatSystem>(
     rt: &R,
     runtime: &mut LocalRuntime,
-    server: &mut EchoServer<R>,
+    server: &mut ChatServer<R>,
 ) -> Result<bool, Fail> {
     let limit = Duration::from_secs(2);
     let shut_down = server.shutdown()?;
@@ -166,10 +166,10 @@ where
 }
 
 /// Returns whether stopping to listen ends within two seconds, while the accepting stream is kept.
-fn stops_beside<R: System>(
+fn stops_beside<R: ChatSystem>(
     rt: &R,
     runtime: &mut LocalRuntime,
-    server: &mut EchoServer<R>,
+    server: &mut ChatServer<R>,
 ) -> Result<bool, Fail> {
     let kept = Kept {
         serving: server.start()?,

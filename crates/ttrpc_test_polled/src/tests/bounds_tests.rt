@@ -13,7 +13,7 @@ use std::test::Fail;
 use tokio::io::{AsyncRead, AsyncWrite};
 use tokio::runtime::LocalRuntime;
 use ttrpc_bench::checks::check_named;
-use ttrpc_polled::{Held, OUTLET_LIMIT, Outlet};
+use ttrpc_polled::{PolledState, WRITE_BUFFER_LIMIT, WriteBuffer};
 use ttrpc_polled_client::{Client, ClientConnection};
 use ttrpc_secure::Plain;
 
@@ -66,7 +66,7 @@ struct Frames {
     driver: Option<Waker>,
 }
 
-impl Held for Frames {
+impl PolledState for Frames {
     ghost use Rattle.std.specs.Prelude.{false, true};
 
     ghost takes = { λ _ _ _ _ _. ⊤ };
@@ -131,25 +131,25 @@ impl Held for Frames {
     }
 }
 
-/// Returns the number of bytes that are kept, and the number left to be lent, after an outlet has gathered from
+/// Returns the number of bytes that are kept, and the number left to be lent, after a write buffer has gathered from
 /// `length` bytes.
 fn gathered(alloc: Global, length: usize) -> Result<(usize, usize), Fail> {
     let offered = nothing_offered(alloc)?;
-    let mut outlet = Outlet::new(alloc, Taking { offered })?;
+    let mut write_buffer = WriteBuffer::new(alloc, Taking { offered })?;
     let mut held = Frames {
         left: length,
         first: FRAME.min(length),
         driver: None,
     };
-    outlet.gather(&mut held);
-    Ok((outlet.kept.bytes().len(), held.left))
+    write_buffer.gather(&mut held);
+    Ok((write_buffer.kept.bytes().len(), held.left))
 }
 
-// Seen to fail if an outlet gathers without a limit.
+// Seen to fail if a write buffer gathers without a limit.
 #[test]
-fn an_outlet_keeps_no_frame_behind_its_limit(rt: HostRuntime) -> Result<(), Fail> {
+fn a_write_buffer_keeps_no_frame_behind_its_limit(rt: HostRuntime) -> Result<(), Fail> {
     let (kept, left) = gathered(rt.alloc(), 409_600)?;
-    let is_so = kept < OUTLET_LIMIT + FRAME && kept.saturating_add(left) == 409_600;
+    let is_so = kept < WRITE_BUFFER_LIMIT + FRAME && kept.saturating_add(left) == 409_600;
     check_named("it keeps too much, or loses something", is_so)
 }
 
@@ -186,7 +186,7 @@ fn offers_of_a_long_call<R: System>(rt: &R) -> Result<(u32, usize), Fail> {
 
 /// The frame has a header of 10 bytes. Its request has 11 bytes for the service, 6 for the method, 4 before the
 /// payload, and the payload.
-// Seen to fail if an outlet offers a frame in parts.
+// Seen to fail if a write buffer offers a frame in parts.
 #[test]
 fn a_long_frame_leaves_by_one_write(rt: HostRuntime) -> Result<(), Fail> {
     check_named(

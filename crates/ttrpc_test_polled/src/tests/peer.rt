@@ -8,7 +8,7 @@ use std::io::ErrorKind;
 use std::sync::Mutex;
 use std::time::Clock;
 use tokio::io::DuplexStream;
-use ttrpc_polled::{Connected, Held, Link, Step};
+use ttrpc_polled::{ConnectionDriver, PolledState, SharedConnection, Step};
 use ttrpc_proto::{Error, Response, ResponseInit, Result, get_status};
 use ttrpc_secure::Plain;
 use ttrpc_server::{JobId, ServerCore};
@@ -133,7 +133,7 @@ fn echo(alloc: Global, core: &mut ServerCore<Plain, Plain>, id: JobId) {
     }
 }
 
-impl Held for PeerHeld {
+impl PolledState for PeerHeld {
     ghost use Rattle.std.specs.Prelude.{⊤, is_some, true};
     ghost use Rattle.ttrpc_connection.specs.OneEnd.{lendable};
 
@@ -222,7 +222,7 @@ impl PeerShared {
     }
 }
 
-impl Connected for PeerShared {
+impl SharedConnection for PeerShared {
     type Held = PeerHeld;
 
     ghost asked = { λ shared. shared.asked.id };
@@ -239,7 +239,7 @@ impl Connected for PeerShared {
 /// The peer's future.
 #[derive(Drop)]
 pub struct Peer<R: Clock + AllocGlobal + Drop> {
-    pub link: Link<R, DuplexStream, DuplexStream, PeerShared>,
+    pub link: ConnectionDriver<R, DuplexStream, DuplexStream, PeerShared>,
     pub reads: bool,
     pub never: Source,
     pub slot: Option<Waker>,

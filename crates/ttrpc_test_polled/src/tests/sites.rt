@@ -13,7 +13,7 @@ use std::test::Fail;
 use tokio::io::{AsyncRead, AsyncWrite, DuplexStream, duplex};
 use tokio::runtime::{Handle, LocalRuntime};
 use ttrpc_bench_polled::registry::registry;
-use ttrpc_polled::{Link, Timed};
+use ttrpc_polled::{ConnectionDriver, Timed};
 use ttrpc_polled_client::{Client, ClientConnection};
 use ttrpc_proto::{Request, RequestInit, Response, Result as RpcResult};
 use ttrpc_secure::{ConnectionContext, HookOutput, Plain};
@@ -109,7 +109,7 @@ fn make_peer<R: System>(
     writer: DuplexStream,
 ) -> Result<Peer<R>, Fail> {
     let shared = peer_shared(rt.alloc(), manners)?;
-    let link = Link::new(rt.clone()?, handle, shared, reader, writer)?;
+    let link = ConnectionDriver::new(rt.clone()?, handle, shared, reader, writer)?;
     Ok(Peer {
         link,
         reads: manners != Manners::ReadsNothing,

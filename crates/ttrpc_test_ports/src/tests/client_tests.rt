@@ -7,8 +7,8 @@ use std::alloc::Global;
 use std::io::{self, ErrorKind};
 use std::sync::Wait;
 use ttrpc_client::CallId;
-use ttrpc_sync::{Connected, ReadPort, read_loop};
-use ttrpc_sync_client::{ClientRead, Manner, Reader};
+use ttrpc_sync::{ConnectionLock, ReadPort, read_loop};
+use ttrpc_sync_client::{CallShape, ClientRead, CurrentReader};
 use ttrpc_test_cores::server::{ASKED, ECHOED};
 
 /// The request of a call is written by the thread that took the turn, and that thread gives the turn back.
@@ -45,13 +45,13 @@ fn a_response_is_read(rt: HostRuntime) -> Tested {
 
 /// Returns whether a short call begins alone, and its caller takes the turn to read.
 fn takes_the_turn(rt: &impl Wait, client: &Client, id: CallId) -> bool {
-    let short = Manner {
+    let short = CallShape {
         has_deadline: false,
         is_next: true,
         is_short: true,
     };
     let mut held = client.held().lock(rt);
-    held.reading.begins(id, short) && held.reading.take(id)
+    held.reading.begin_call(id, short) && held.reading.take(id)
 }
 
 /// Returns whether the call has its answer, the connection lives, and nobody reads it.
@@ -59,7 +59,7 @@ fn has_answer_alone(rt: &impl Wait, alloc: Global, client: &Client, id: CallId) 
     let is_answered = has_outcome(rt, alloc, client, id);
     let lives = client_failure(rt, alloc, client).is_none();
     let reader = client.held().lock(rt).reading.reader;
-    is_answered && lives && reader == Reader::Nobody
+    is_answered && lives && reader == CurrentReader::Nobody
 }
 
 /// A caller that is alone reads until its call has ended, and no further.

@@ -6,23 +6,23 @@ use ttrpc_client::{CallId, ClientCore, ClientKind};
 use ttrpc_proto::{Error, Request, Response, Status};
 use ttrpc_secure::{Plain, plain_context};
 use ttrpc_server::{Rules, ServerCore};
-use ttrpc_sync::{Connected, PoolCore, WriteEnd, write_loop};
-use ttrpc_sync_client::ClientShared;
-use ttrpc_sync_server::{Backlog, ServerShared};
+use ttrpc_sync::{ConnectionLock, PoolCore, WriteEnd, write_loop};
+use ttrpc_sync_client::ClientLock;
+use ttrpc_sync_server::{Backlog, ServerLock};
 use ttrpc_test_cores::server::registry;
 use ttrpc_wire::codec::message::WireMessage;
 use ttrpc_wire::{Blob, Text};
 
 pub type Tested = Result<(), Fail>;
 
-pub type Client = Arc<ClientShared<Plain, Plain>, Global>;
+pub type Client = Arc<ClientLock<Plain, Plain>, Global>;
 
-pub type Server = Arc<ServerShared<Plain, Plain>, Global>;
+pub type Server = Arc<ServerLock<Plain, Plain>, Global>;
 
 /// Returns a client without calls.
 pub fn client(alloc: Global) -> Result<Client, Error> {
     let core = ClientCore::new(alloc, ClientKind::Sync, plain_context(alloc))?;
-    Ok(Arc::new(alloc, ClientShared::new(core))?)
+    Ok(Arc::new(alloc, ClientLock::new(core))?)
 }
 
 /// Returns a server of `demo.Echo` without limits on waiting jobs.
@@ -40,7 +40,7 @@ pub fn limited_server(
     let core = ServerCore::new(alloc, Rules::Sync, registry, plain_context(alloc))?;
     let pool = PoolCore::new(1, 0, 1);
     let backlog = Backlog::new(max_jobs, max_bytes);
-    Ok(Arc::new(alloc, ServerShared::new(core, pool, backlog))?)
+    Ok(Arc::new(alloc, ServerLock::new(core, pool, backlog))?)
 }
 
 /// Calls `Echo` with the payload 2a.
@@ -112,7 +112,7 @@ pub fn is_socket(failure: &Option<Error>, text: &str) -> bool {
 }
 
 /// Returns the bytes that a thread writes after it took the turn.
-pub fn written<X: Wait, S: Connected>(rt: &X, alloc: Global, shared: &S) -> Vec<u8> {
+pub fn written<X: Wait, S: ConnectionLock>(rt: &X, alloc: Global, shared: &S) -> Vec<u8> {
     let mut bytes = Vec::new(alloc);
     let mut port = WriteEnd::leaving(rt, shared);
     write_loop(rt, &mut bytes, &mut port);

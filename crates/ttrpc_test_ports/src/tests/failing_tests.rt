@@ -6,7 +6,7 @@ use std::sync::Wait;
 use ttrpc_bench::{AT_ONCE, Receiver};
 use ttrpc_client::CallId;
 use ttrpc_proto::{Error, Request};
-use ttrpc_sync::{Connected, Held, ReadPort, WriteEnd, write_loop};
+use ttrpc_sync::{ConnectionLock, LockedState, ReadPort, WriteEnd, write_loop};
 use ttrpc_sync_client::ClientRead;
 use ttrpc_test_cores::server::ECHOED;
 use ttrpc_wire::values::slices::front;

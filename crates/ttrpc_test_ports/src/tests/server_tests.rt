@@ -11,8 +11,10 @@ use std::test::Fail;
 use ttrpc_proto::Error;
 use ttrpc_secure::plain_context;
 use ttrpc_server::{Job, Rules, ServerCore};
-use ttrpc_sync::{Connected, Gate, Handler, Held, Next, PoolCore, ReadPort, read_loop, work_loop};
-use ttrpc_sync_server::{AtTurn, Backlog, Relay, ServerHeld, ServerJobs, ServerRead};
+use ttrpc_sync::{
+    ConnectionLock, Gate, Handler, LockedState, Next, PoolCore, ReadPort, read_loop, work_loop,
+};
+use ttrpc_sync_server::{AtTurn, Backlog, ServerHeld, ServerJobs, ServerRead, ServerReadTurn};
 use ttrpc_test_cores::server::{ASKED, ECHOED, NO_METHOD, NO_METHOD_ANSWER, registry};
 use ttrpc_wire::values::slices::front;
 
@@ -119,9 +121,9 @@ fn a_failed_handler_fails_the_server(rt: HostRuntime) -> Tested {
 /// Returns whether a reader of one request handles it itself, while the other reader waits for the turn or doesn't.
 fn keeps<X: Wait>(rt: &X, alloc: Global, waits: bool) -> Result<bool, Fail> {
     let shared = server(alloc)?;
-    shared.held().lock(rt).relay.wants(0, None);
+    shared.held().lock(rt).read_turn.wants(0, None);
     if waits {
-        shared.held().lock(rt).relay.wants(1, None);
+        shared.held().lock(rt).read_turn.wants(1, None);
     }
     let mut port = ServerRead::new(rt, alloc, &*shared);
     port.begin();
@@ -138,34 +140,34 @@ fn a_reader_keeps_a_job_beside_one_that_waits(rt: HostRuntime) -> Tested {
 
 /// Returns whether the second reader sleeps while the first has the turn, and is woken for the first round of jobs. It
 /// must look again while rounds begin, and sleep again when none has begun.
-fn looks_while_rounds_begin(relay: &mut Relay) -> bool {
-    relay.wants(0, None) == AtTurn::Reads
-        && relay.wants(1, None) == AtTurn::Sleeps
-        && relay.begins()
-        && relay.wants(1, None) == AtTurn::LooksAgain(1)
-        && !relay.begins()
-        && relay.wants(1, Some(1)) == AtTurn::LooksAgain(2)
-        && relay.wants(0, None) == AtTurn::Reads
-        && relay.wants(1, Some(1)) == AtTurn::LooksAgain(2)
-        && relay.wants(1, Some(2)) == AtTurn::Sleeps
+fn looks_while_rounds_begin(read_turn: &mut ServerReadTurn) -> bool {
+    read_turn.wants(0, None) == AtTurn::Reads
+        && read_turn.wants(1, None) == AtTurn::Sleeps
+        && read_turn.begin_round()
+        && read_turn.wants(1, None) == AtTurn::LooksAgain(1)
+        && !read_turn.begin_round()
+        && read_turn.wants(1, Some(1)) == AtTurn::LooksAgain(2)
+        && read_turn.wants(0, None) == AtTurn::Reads
+        && read_turn.wants(1, Some(1)) == AtTurn::LooksAgain(2)
+        && read_turn.wants(1, Some(2)) == AtTurn::Sleeps
 }
 
 /// Returns whether the second reader takes the turn from the first, which handles jobs of the round that the second
 /// saw.
-fn takes_the_turn(relay: &mut Relay) -> bool {
-    relay.begins()
-        && relay.wants(1, None) == AtTurn::LooksAgain(3)
-        && relay.wants(1, Some(3)) == AtTurn::Reads
-        && !relay.has_turn(0)
-        && relay.wants(0, None) == AtTurn::Sleeps
-        && relay.wants(1, None) == AtTurn::Reads
+fn takes_the_turn(read_turn: &mut ServerReadTurn) -> bool {
+    read_turn.begin_round()
+        && read_turn.wants(1, None) == AtTurn::LooksAgain(3)
+        && read_turn.wants(1, Some(3)) == AtTurn::Reads
+        && !read_turn.has_turn(0)
+        && read_turn.wants(0, None) == AtTurn::Sleeps
+        && read_turn.wants(1, None) == AtTurn::Reads
 }
 
 /// A reader takes the turn from one that still handles jobs of the round that it saw.
 #[test]
 fn a_reader_takes_the_turn_from_one_that_handles_jobs(rt: HostRuntime) -> Tested {
-    let mut relay = Relay::new();
-    assert!(rt; looks_while_rounds_begin(&mut relay) && takes_the_turn(&mut relay));
+    let mut read_turn = ServerReadTurn::new();
+    assert!(rt; looks_while_rounds_begin(&mut read_turn) && takes_the_turn(&mut read_turn));
     Ok(())
 }
 
@@ -294,7 +296,7 @@ fn workers_are_started_once(rt: HostRuntime) -> Tested {
     let core = ServerCore::new(rt.alloc(), Rules::Sync, registry, plain_context(rt.alloc()))?;
     let mut held = ServerHeld::new(core, PoolCore::new(3, 1, 5), Backlog::new(None, None));
     let at_first = held.to_start();
-    held.starts(3);
+    held.add_starting(3);
     let then = held.to_start();
     let passes = held.enter(true) && held.leave();
     assert!(rt; (at_first, then, passes, held.to_start()) == (3, 0, true, 1));

@@ -8,8 +8,8 @@ use std::thread;
 use std::time::{Clock, Duration};
 use ttrpc_proto::Error;
 use ttrpc_server::JobId;
-use ttrpc_sync::{Connected, JobPort, ReadPort};
-use ttrpc_sync_client::{CALLS_TO_REST, Manner};
+use ttrpc_sync::{ConnectionLock, JobPort, ReadPort};
+use ttrpc_sync_client::{CALLS_TO_REST, CallShape};
 use ttrpc_sync_server::{ServerJobs, ServerRead};
 use ttrpc_test_cores::server::ASKED;
 
@@ -42,14 +42,14 @@ fn fed<X: Wait + Clock>(rt: &X, alloc: Global, shared: &Server, bytes: &[u8]) ->
 fn make_lone_calls(rt: &impl Wait, shared: &Client) {
     let mut held = shared.held().lock(rt);
     for id in 0..CALLS_TO_REST {
-        let short = Manner {
+        let short = CallShape {
             has_deadline: false,
             is_next: true,
             is_short: true,
         };
-        let _ = held.reading.begins(id, short);
-        held.reading.ended(id);
-        held.reading.finished(id, true);
+        let _ = held.reading.begin_call(id, short);
+        held.reading.end_call(id);
+        held.reading.finish_call(id, true);
     }
 }
 
@@ -57,12 +57,12 @@ fn make_lone_calls(rt: &impl Wait, shared: &Client) {
 fn call_later<X: Wait + Clock>(rt: &X, shared: &Client) -> bool {
     thread::sleep(rt, a_while());
     let mut held = shared.held().lock(rt);
-    let limited = Manner {
+    let limited = CallShape {
         has_deadline: true,
         is_next: true,
         is_short: true,
     };
-    let is_alone = held.reading.begins(99, limited);
+    let is_alone = held.reading.begin_call(99, limited);
     let wakes = held.reading.wakes();
     drop(held);
     shared.wake_reader();
@@ -111,7 +111,7 @@ fn the_reader_ends_with_its_client(rt: HostRuntime) -> Tested {
 /// Returns a server with room for one waiting job and with two of them. Its first reader has the turn.
 fn full_server(rt: &impl Wait, alloc: Global) -> Result<Server, Fail> {
     let shared = limited_server(alloc, Some(1), None)?;
-    shared.held().lock(rt).relay.wants(0, None);
+    shared.held().lock(rt).read_turn.wants(0, None);
     let mut port = ServerRead::new(rt, alloc, &*shared);
     for _ in 0..2 {
         port.begin();

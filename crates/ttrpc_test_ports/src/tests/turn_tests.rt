@@ -1,13 +1,13 @@
 //! Turns, and the port of a writer that has no turn.
 use crate::tests::ends::{Tested, calling_client, client_failure, is_socket};
 use std::io::{self, ErrorKind};
-use ttrpc_sync::{Connected, Next, Turn, WritePort};
-use ttrpc_sync_client::{ClientWrite, Manner, Onward, ReadTurn};
+use ttrpc_sync::{ConnectionLock, Next, WritePort, WriteTurn};
+use ttrpc_sync_client::{CallShape, ClientWrite, ReadTurn, ReaderNext};
 use ttrpc_test_cores::server::ASKED;
 use ttrpc_wire::values::slices::{behind, front};
 
 /// Returns whether a new turn goes from one thread to another, and the sleeping thread is woken once.
-fn is_taken_by_one(turn: &mut Turn) -> bool {
+fn is_taken_by_one(turn: &mut WriteTurn) -> bool {
     !turn.wakes()
         && turn.take()
         && !turn.take()
@@ -23,12 +23,12 @@ fn is_taken_by_one(turn: &mut Turn) -> bool {
 /// One thread at a time has the turn, and the sleeping thread is woken once.
 #[test]
 fn one_thread_has_the_turn(rt: HostRuntime) -> Tested {
-    assert!(rt; is_taken_by_one(&mut Turn::new()));
+    assert!(rt; is_taken_by_one(&mut WriteTurn::new()));
     Ok(())
 }
 
 /// Returns whether a new turn that is given back wakes the thread that sleeps, once, and only if bytes wait.
-fn wakes_as_it_is_left(turn: &mut Turn) -> bool {
+fn wakes_as_it_is_left(turn: &mut WriteTurn) -> bool {
     turn.take()
         && !turn.give_back(true)
         && turn.take()
@@ -44,43 +44,43 @@ fn wakes_as_it_is_left(turn: &mut Turn) -> bool {
 /// A thread that gives the turn back wakes the sleeping thread, once, and only if bytes wait.
 #[test]
 fn who_leaves_wakes_the_writer(rt: HostRuntime) -> Tested {
-    assert!(rt; wakes_as_it_is_left(&mut Turn::new()));
+    assert!(rt; wakes_as_it_is_left(&mut WriteTurn::new()));
     Ok(())
 }
 
 /// A call that is short and never expires.
-const SHORT: Manner = Manner {
+const SHORT: CallShape = CallShape {
     has_deadline: false,
     is_next: true,
     is_short: true,
 };
 
 /// A call that may expire, and a long one.
-const LIMITED: Manner = Manner {
+const LIMITED: CallShape = CallShape {
     has_deadline: true,
     ..SHORT
 };
 
-const LONG: Manner = Manner {
+const LONG: CallShape = CallShape {
     is_short: false,
     ..SHORT
 };
 
 /// A call with other frames before its own.
-const BEHIND: Manner = Manner {
+const BEHIND: CallShape = CallShape {
     is_next: false,
     ..SHORT
 };
 
 /// Ends the call, which was answered or not.
 fn end(turn: &mut ReadTurn, call: u32, is_answered: bool) {
-    turn.ended(call);
-    turn.finished(call, is_answered);
+    turn.end_call(call);
+    turn.finish_call(call, is_answered);
 }
 
 /// Begins a call that is then answered. Returns whether it isn't alone.
-fn is_not_alone(turn: &mut ReadTurn, call: u32, manner: Manner) -> bool {
-    let is_alone = turn.begins(call, manner);
+fn is_not_alone(turn: &mut ReadTurn, call: u32, shape: CallShape) -> bool {
+    let is_alone = turn.begin_call(call, shape);
     end(turn, call, true);
     !is_alone
 }
@@ -88,24 +88,24 @@ fn is_not_alone(turn: &mut ReadTurn, call: u32, manner: Manner) -> bool {
 /// Returns whether one caller takes the turn, alone, and neither another caller nor the thread takes it meanwhile.
 fn is_read_by_one(turn: &mut ReadTurn) -> bool {
     !turn.wakes()
-        && turn.begins(1, SHORT)
+        && turn.begin_call(1, SHORT)
         && turn.take(1)
         && !turn.take(1)
         && !turn.thread_takes()
-        && !turn.begins(3, SHORT)
+        && !turn.begin_call(3, SHORT)
         && !turn.wakes()
-        && turn.onward() == Onward::Reads
+        && turn.reader_next() == ReaderNext::Reads
 }
 
 /// Returns whether the caller hands the turn over after its call has ended, and the thread reads on.
 fn is_handed_over(turn: &mut ReadTurn) -> bool {
-    turn.ended(1);
-    let hands_over = !turn.take(1) && turn.onward() == Onward::HandsOver;
-    turn.finished(1, true);
+    turn.end_call(1);
+    let hands_over = !turn.take(1) && turn.reader_next() == ReaderNext::HandsOver;
+    turn.finish_call(1, true);
     let takes = turn.thread_takes();
-    turn.ended(3);
-    let reads = turn.onward() == Onward::Reads;
-    turn.finished(3, true);
+    turn.end_call(3);
+    let reads = turn.reader_next() == ReaderNext::Reads;
+    turn.finish_call(3, true);
     hands_over && takes && reads
 }
 
@@ -119,21 +119,21 @@ fn one_thread_reads(rt: HostRuntime) -> Tested {
 
 /// Returns whether the thread reads on before a call and while it is running. The call is answered.
 fn is_read_beside(turn: &mut ReadTurn, call: u32) -> bool {
-    let reads = turn.onward() == Onward::Reads
-        && turn.begins(call, SHORT)
-        && turn.onward() == Onward::Reads;
+    let reads = turn.reader_next() == ReaderNext::Reads
+        && turn.begin_call(call, SHORT)
+        && turn.reader_next() == ReaderNext::Reads;
     end(turn, call, true);
     reads
 }
 
 /// Returns whether the thread leaves the turn to the next caller, and goes on to rest after that call.
 fn rests(turn: &mut ReadTurn) -> bool {
-    let leaves = turn.onward() == Onward::Leaves
+    let leaves = turn.reader_next() == ReaderNext::Leaves
         && !turn.thread_takes()
-        && turn.begins(99, SHORT)
+        && turn.begin_call(99, SHORT)
         && turn.take(99);
-    turn.ended(99);
-    leaves && turn.onward() == Onward::Leaves
+    turn.end_call(99);
+    leaves && turn.reader_next() == ReaderNext::Leaves
 }
 
 /// The thread rests after eight calls in a row that were alone, and not before the last one has ended.
@@ -150,9 +150,9 @@ fn the_reader_rests_behind_lone_calls(rt: HostRuntime) -> Tested {
 
 /// Returns whether a call is alone after a long one that was answered, and not after one that wasn't.
 fn is_alone_once_answered(turn: &mut ReadTurn) -> bool {
-    let after_a_long_one = is_not_alone(turn, 1, LONG) && turn.begins(3, SHORT);
+    let after_a_long_one = is_not_alone(turn, 1, LONG) && turn.begin_call(3, SHORT);
     end(turn, 3, false);
-    after_a_long_one && is_not_alone(turn, 5, SHORT) && turn.begins(7, SHORT)
+    after_a_long_one && is_not_alone(turn, 5, SHORT) && turn.begin_call(7, SHORT)
 }
 
 /// A long call isn't alone, and neither is a call after one that the peer hasn't answered: the peer may not have read

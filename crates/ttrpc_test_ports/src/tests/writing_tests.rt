@@ -9,7 +9,7 @@ use std::test::Fail;
 use std::thread;
 use std::time::{Clock, Duration};
 use ttrpc_proto::Request;
-use ttrpc_sync::{Connected, Gather, Held, Next, WriteEnd, write_loop};
+use ttrpc_sync::{ConnectionLock, Gather, LockedState, Next, WriteEnd, write_loop};
 use ttrpc_test_cores::server::{ASKED, NO_METHOD};
 
 /// A writer that keeps the bytes that it takes. Before it takes any, another caller queues a request.

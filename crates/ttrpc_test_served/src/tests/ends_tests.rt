@@ -21,9 +21,10 @@ use ttrpc_bench_polled::acts::is_so;
 use ttrpc_bench_polled::lines::Line::{self, *};
 use ttrpc_bench_polled::parts::{Fault, Parts};
 use ttrpc_bench_polled::registry::registry;
-use ttrpc_polled::{Held, StreamInner, StreamReceiver};
+use ttrpc_polled::{PolledState, StreamInner, StreamReceiver};
 use ttrpc_polled_server::{
-    Ended, InputEnd, NoMethods, Server, ServerHeld, Service, Settings, StreamHandler, TtrpcContext,
+    Ended, InputEnd, NoMethods, PolledServerState, Server, Service, Settings, StreamHandler,
+    TtrpcContext,
 };
 use ttrpc_proto::{Response, Result as RpcResult};
 use ttrpc_secure::{ConnectionContext, HookOutput, Plain};
@@ -188,7 +189,7 @@ fn who_receives_outside_a_handler_is_told_of_its_end(rt: HostRuntime) -> Result<
 /// A job that was taken and that a task waits for, and then its end.
 #[derive(Drop)]
 struct Waited {
-    held: ServerHeld<Plain, Plain>,
+    held: PolledServerState<Plain, Plain>,
     came: Source,
 }
 
@@ -207,11 +208,11 @@ impl Future for Waited {
 const ASKED: &[u8] = b"\0\0\0\x14\0\0\0\x01\x01\0\x0a\x09demo.Echo\x12\x04Echo\x1a\x01\x2a";
 
 /// Returns the part of a connection under its lock, with a job that was taken.
-fn taken(alloc: Global) -> Result<ServerHeld<Plain, Plain>, Fail> {
+fn taken(alloc: Global) -> Result<PolledServerState<Plain, Plain>, Fail> {
     let context = ConnectionContext::of_halves(alloc, Plain {}, Plain {});
     let core = ServerCore::new(alloc, Rules::Async, registry(alloc)?, context)?;
     let input_end = Arc::new(alloc, InputEnd::new(alloc))?;
-    let mut held = ServerHeld::new(alloc, core, Settings::new(), input_end);
+    let mut held = PolledServerState::new(alloc, core, Settings::new(), input_end);
     let _ = held.take(alloc, ASKED, 0);
     let _ = held.take_job();
     Ok(held)

@@ -16,7 +16,7 @@ use ttrpc_proto::Result as Answered;
 use ttrpc_secure::{ConnectionDataExt, HookError, admit};
 use ttrpc_sync::Host;
 use ttrpc_sync_client::Client;
-use ttrpc_sync_server::accept::{Stop, next_connection};
+use ttrpc_sync_server::accept::{StopSignal, next_connection};
 use ttrpc_sync_server::{NoHook, NoWatch};
 
 /// The moments at which a hook begins and ends, and whether that is in time.
@@ -121,7 +121,7 @@ fn is_tried_again<R: Clock + Wait>(rt: &R, row: &(u64, ErrorKind, bool)) -> Resu
         left: AtomicU64::new(count),
     };
     let interval = Duration::from_millis(10);
-    let stop = Stop::new();
+    let stop = StopSignal::new();
     // The end of an earlier connection is no reason to look sooner.
     stop.note_end(rt);
     let start = Instant::now(rt)?;
@@ -148,7 +148,7 @@ fn a_stop_ends_the_wait(rt: HostRuntime) -> Tested {
         kind: ErrorKind::Other,
         left: AtomicU64::new(u64::MAX),
     };
-    let stop = Stop::new();
+    let stop = StopSignal::new();
     let interval = Duration::from_secs(50);
     let (next, ()) = thread::join(
         &rt,

@@ -12,7 +12,7 @@ use ttrpc_bench_threads::sites::{Machine, address_in, call_fails, check, new_boa
 use ttrpc_proto::{Error, Result as Answered};
 use ttrpc_secure::{SendInbound, SendOutbound};
 use ttrpc_sync::Host;
-use ttrpc_sync_server::accept::{Stop, next_connection};
+use ttrpc_sync_server::accept::{StopSignal, next_connection};
 use ttrpc_sync_server::{NoHook, Server, SharedHook, Watch};
 
 /// The reports to a watch: the number of failed accepts, the number of failed handlers, and the text of the last
@@ -73,7 +73,7 @@ fn told_accepts<R: Host>(rt: &R, kind: ErrorKind) -> Answered<u64> {
         left: AtomicU64::new(3),
     };
     let interval = Duration::from_millis(1);
-    let next = next_connection(rt, &failing, &Stop::new(), &notes, interval);
+    let next = next_connection(rt, &failing, &StopSignal::new(), &notes, interval);
     check(rt.alloc(), next.is_none(), "a connection came")?;
     Ok(notes.told.accepts.load(Ordering::SeqCst))
 }

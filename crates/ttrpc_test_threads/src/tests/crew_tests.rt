@@ -18,8 +18,8 @@ use ttrpc_bench_threads::sites::{
 };
 use ttrpc_proto::Result as Answered;
 use ttrpc_secure::{AcceptHook, HookError, HookOutput, Plain};
-use ttrpc_sync::{Connected, Host, moment};
-use ttrpc_sync_server::accept::{Stop, next_connection};
+use ttrpc_sync::{ConnectionLock, Host, moment};
+use ttrpc_sync_server::accept::{StopSignal, next_connection};
 use ttrpc_sync_server::{NoHook, NoWatch};
 use ttrpc_transport::{PipeConnection, PipeListener};
 use ttrpc_wire::values::slices::behind;
@@ -423,7 +423,7 @@ fn nodelay_is_handed_on(rt: HostRuntime) -> Tested {
 }
 
 /// Reports that a connection of the server has ended, after a while.
-fn ends_later<X: Wait + Clock>(rt: &X, stop: &Stop) {
+fn ends_later<X: Wait + Clock>(rt: &X, stop: &StopSignal) {
     a_while(rt);
     stop.note_end(rt);
 }
@@ -436,7 +436,7 @@ fn an_end_lets_a_server_accept_again(rt: HostRuntime) -> Tested {
         kind: ErrorKind::Other,
         left: AtomicU64::new(1),
     };
-    let stop = Stop::new();
+    let stop = StopSignal::new();
     let start = Instant::now(&rt)?;
     let (accepted, _) = thread::join(
         &rt,

@@ -7,8 +7,8 @@ ghost use Rattle.ttrpc_proto.specs.Framing.Frames.{Held, Fed, nothing};
 ghost use Rattle.ttrpc_proto.specs.Framing.Queue.{Queue, after_report, begun_count, empty_queue, open_part, with_frame, with_lent, without};
 ghost use Rattle.ttrpc_secure.specs.Halves.{IsPaired};
 ghost use Rattle.ttrpc_secure.specs.Sends.{associated};
-ghost use Rattle.ttrpc_connection.specs.declared.arrived.Opening.{Opening};
-ghost use Rattle.ttrpc_connection.specs.declared.arrived.Opening.TheVariants.{Opened};
+ghost use Rattle.ttrpc_connection.specs.declared.arrived.InboundResult.{InboundResult};
+ghost use Rattle.ttrpc_connection.specs.declared.arrived.InboundResult.TheVariants.{Opened};
 ghost use Rattle.ttrpc_connection.specs.Outbox.{Outbox as AnOutbox};
 ghost use Rattle.ttrpc_connection.specs.Frames.{Opens, Sent, SendsAll};
 ghost use Rattle.ttrpc_connection.specs.Feeds.{ActsAll, Scene, ways};
@@ -69,7 +69,7 @@ pub fn seals_open_as_they_were_made<O: OutboundTransform, I: InboundTransform>()
         → O.seals out x.plain (associated x.frame.message.header) x.frame.message.payload later
         → AreLinked O.seals I.opens I.refuses (flights ++ x ∷ []) later in_ }
     ensures opened { (x : Flying) (flights : List Flying) (out : O) (in_ later : I)
-        (opening : Opening)
+        (opening : InboundResult)
         → AreLinked O.seals I.opens I.refuses (x ∷ flights) out in_
         → Opens I.InboundTransform in_ (arrived x) opening later
         → (opening ≡ Opened x.plain) × AreLinked O.seals I.opens I.refuses flights out later }

@@ -1,5 +1,5 @@
 use Rattle.ttrpc_server.proofs.Words.{◌≡◌, ◌∙◌, ap, Async, inl, jobs_at, refl, row_of, subst}
-use Rattle.ttrpc_server.specs.Table.{case_of, inlet_of, newest_after}
+use Rattle.ttrpc_server.specs.Table.{case_of, id_state_of, newest_after}
 use Rattle.ttrpc_server.specs.Types.{Asks}
 use Rattle.ttrpc_server.specs.Protocol.{case_in, seen_by}
 use Rattle.ttrpc_server.proofs.Newest.{asks_above, newest_lasts, newest_stays}
@@ -10,8 +10,8 @@ use Rattle.ttrpc_server.proofs.laws.request_ids_rise.Goals as goal
 pub returns-clause-read : goal.returns-clause-read
 returns-clause-read g c = λ old new o a sent plain does async asks.
     let leaves = row_leaves g.O.OutboundTransform (row_of old a) (seen_by old a) o a.header a.now sent new does in
-    let inlet = inlet_of (jobs_at old.jobs.list a.header.stream_id) in (
-      asks_above a.header a.opening old.jobs.newest inlet plain (subst (λ r. case_of r a.header a.opening old.jobs.newest inlet ≡ Asks plain) async asks),
+    let id_state = id_state_of (jobs_at old.jobs.list a.header.stream_id) in (
+      asks_above a.header a.opening old.jobs.newest id_state plain (subst (λ r. case_of r a.header a.opening old.jobs.newest id_state ≡ Asks plain) async asks),
       leaves.newest ∙ ap (λ r. newest_after r a.header.stream_id (case_in old a) old.jobs.newest) async ∙ ap (λ case. newest_after Async a.header.stream_id case old.jobs.newest) asks,
     )
 

@@ -5,20 +5,20 @@ ghost use Rattle.ttrpc_server.specs.Protocol.{AnswersError, Finishes, Hands, Ref
 ghost use Rattle.ttrpc_server.specs.State.{NoneWaits};
 ghost use Rattle.ttrpc_sync.specs.declared.ports.PortState.{PortState};
 
-use crate::connection::ports::server::ServerShared;
+use crate::connection::ports::server::ServerLock;
 use std::alloc::Global;
 use std::sync::Wait;
 use ttrpc_proto::Error;
 use ttrpc_secure::{InboundTransform, OutboundTransform};
 use ttrpc_server::{Job, JobId, ServerCore, jobs_on};
-use ttrpc_sync::{Connected, Handler, JobPort, PortState, lock_soon, wait_soon};
+use ttrpc_sync::{ConnectionLock, Handler, JobPort, PortState, lock_soon, wait_soon};
 
 /// The port of one worker of a server.
 #[derive(Drop)]
 pub struct ServerJobs<'a, X: Wait, O: OutboundTransform + Drop, I: InboundTransform + Drop> {
     rt: &'a X,
     alloc: Global,
-    shared: &'a ServerShared<O, I>,
+    shared: &'a ServerLock<O, I>,
     current: Option<JobId>,
     state: PortState,
 }
@@ -28,7 +28,7 @@ impl<X: Wait, O: OutboundTransform + Drop, I: InboundTransform + Drop> ServerJob
     pub fn new<'a>(
         rt: &'a X,
         alloc: Global,
-        shared: &'a ServerShared<O, I>,
+        shared: &'a ServerLock<O, I>,
     ) -> ServerJobs<'a, X, O, I> {
         ServerJobs {
             rt,
@@ -112,7 +112,7 @@ impl<
 pub(crate) fn report<X: Wait, O: OutboundTransform + Drop, I: InboundTransform + Drop>(
     rt: &X,
     alloc: Global,
-    shared: &ServerShared<O, I>,
+    shared: &ServerLock<O, I>,
     id: JobId,
     outcome: Result<(), Error>,
 ) -> bool {
@@ -135,11 +135,11 @@ pub(crate) fn report<X: Wait, O: OutboundTransform + Drop, I: InboundTransform +
 /// that waits for room is woken when there is some.
 pub(crate) fn waiting_job<X: Wait, O: OutboundTransform + Drop, I: InboundTransform + Drop>(
     rt: &X,
-    shared: &ServerShared<O, I>,
+    shared: &ServerLock<O, I>,
     reader: Option<u32>,
 ) -> Option<Job> {
     let mut guard = lock_soon(rt, shared.held());
-    if !guard.relay.may_handle(reader) {
+    if !guard.read_turn.may_handle(reader) {
         return None;
     }
     let job = ServerJobs::<X, O, I>::take_on(&mut guard.core)?;
@@ -159,7 +159,7 @@ pub(crate) fn waiting_job<X: Wait, O: OutboundTransform + Drop, I: InboundTransf
 /// Waits until there is a job. Returns `None` if the connection has failed.
 fn wait_for_job<X: Wait, O: OutboundTransform + Drop, I: InboundTransform + Drop>(
     rt: &X,
-    shared: &ServerShared<O, I>,
+    shared: &ServerLock<O, I>,
 ) -> Option<Job> {
     for _ in rt.forever() {
         if let Some(job) = waiting_job(rt, shared, None) {
@@ -175,7 +175,7 @@ fn wait_for_job<X: Wait, O: OutboundTransform + Drop, I: InboundTransform + Drop
 /// Sleeps until a job may wait. Returns false if the connection has failed.
 fn sleep_for_job<X: Wait, O: OutboundTransform + Drop, I: InboundTransform + Drop>(
     rt: &X,
-    shared: &ServerShared<O, I>,
+    shared: &ServerLock<O, I>,
 ) -> bool {
     let mut guard = lock_soon(rt, shared.held());
     if guard.core.has_failed() {
@@ -184,7 +184,7 @@ fn sleep_for_job<X: Wait, O: OutboundTransform + Drop, I: InboundTransform + Dro
     if guard.core.jobs_waiting() == 0 {
         guard.sleep();
         guard = wait_soon(rt, shared.to_work(), guard);
-        guard.comes();
+        guard.count_awake();
     }
     true
 }

@@ -3,11 +3,11 @@
 
 mod backlog;
 mod jobs;
-mod relay;
+mod read_turn;
 mod server;
 
 pub use self::backlog::Backlog;
 pub use self::jobs::ServerJobs;
 pub(crate) use self::jobs::{report, waiting_job};
-pub use self::relay::{AtTurn, Relay};
-pub use self::server::{ServerHeld, ServerRead, ServerShared, ServerWrite};
+pub use self::read_turn::{AtTurn, ServerReadTurn};
+pub use self::server::{ServerHeld, ServerLock, ServerRead, ServerWrite};

@@ -4,14 +4,14 @@ ghost use Rattle.std.specs.Option.{option_map};
 ghost use Rattle.ttrpc_connection.specs.OneEnd.{Ends, Lends, TakesOrDrains, failing, lending, reporting};
 ghost use Rattle.ttrpc_connection.specs.declared.failure.Failure.{Failure as AFailure};
 ghost use Rattle.ttrpc_server.specs.Protocol.{drained, serving};
-ghost use Rattle.ttrpc_sync_server.specs.Connection.Held.{IsFed, IsInsideFrame, IsQuiet, LendsFrame, MayTellEnd, asleep, calls_for_next, calls_worker, has_bytes, is_alive, is_answered, keeps_jobs, on_their_way, reads_on, relay_behind, reported_to, waiting_of, woken_for};
+ghost use Rattle.ttrpc_sync_server.specs.Connection.Held.{IsFed, IsInsideFrame, IsQuiet, LendsFrame, MayTellEnd, asleep, calls_for_next, calls_worker, has_bytes, is_alive, is_answered, keeps_jobs, on_their_way, reads_on, read_turn_behind, reported_to, waiting_of, woken_for};
 ghost use Rattle.ttrpc_sync_server.specs.Connection.Backlogs.{calls_reader, is_full, with_begun, with_piece, with_reader};
-ghost use Rattle.ttrpc_sync_server.specs.Connection.Relays.{new_relay};
+ghost use Rattle.ttrpc_sync_server.specs.Connection.ReadTurns.{new_read_turn};
 ghost use Rattle.ttrpc_sync.specs.Pool.{with_waiting};
 ghost use Rattle.ttrpc_sync.specs.Turns.{given_back, next_of, turn_after, turn_waking, wakes_behind, wakes_writer};
 
 use crate::connection::ports::backlog::Backlog;
-use crate::connection::ports::relay::{AtTurn, Relay};
+use crate::connection::ports::read_turn::{AtTurn, ServerReadTurn};
 use std::alloc::Global;
 use std::io::ErrorKind;
 use std::sync::{Condvar, Mutex, Wait};
@@ -20,7 +20,8 @@ use ttrpc_proto::Error;
 use ttrpc_secure::{InboundTransform, OutboundTransform};
 use ttrpc_server::{Job, ServerCore};
 use ttrpc_sync::{
-    Connected, Held, Loan, Next, PoolCore, ReadEnd, Taken, Turn, WriteEnd, lock_soon, wait_soon,
+    ConnectionLock, Loan, LockedState, Next, PoolCore, ReadEnd, Taken, WriteEnd, WriteTurn,
+    lock_soon, wait_soon,
 };
 
 /// The pause in microseconds between two checks by the waiting reader. It doubles, up to `LONGEST_PAUSE`, whenever the other reader has
@@ -31,14 +32,14 @@ const PAUSE: u64 = 100;
 const LONGEST_PAUSE: u64 = 1600;
 
 /// The port of a server's reader. It wakes a worker, the writer and the other reader.
-pub type ServerRead<'a, X, O, I> = ReadEnd<'a, X, ServerShared<O, I>>;
+pub type ServerRead<'a, X, O, I> = ReadEnd<'a, X, ServerLock<O, I>>;
 
 /// The port of one of a server's writers.
-pub type ServerWrite<'a, X, O, I> = WriteEnd<'a, X, ServerShared<O, I>>;
+pub type ServerWrite<'a, X, O, I> = WriteEnd<'a, X, ServerLock<O, I>>;
 
 /// The threads to wake for a piece.
 #[derive(Clone, Copy, Debug)]
-pub struct Woken {
+pub struct ServerWakeSet {
     /// True for one of the workers that sleep.
     pub worker: bool,
     /// True for the writer thread.
@@ -51,7 +52,7 @@ pub struct Woken {
 #[derive(Drop)]
 pub struct ServerHeld<O, I> {
     pub core: ServerCore<O, I>,
-    pub turn: Turn,
+    pub turn: WriteTurn,
     pub pool: PoolCore,
     /// The number of workers that were started, and haven't come to wait yet.
     pub starting: usize,
@@ -60,7 +61,7 @@ pub struct ServerHeld<O, I> {
     // The number of workers that were woken, and haven't looked for a job since.
     coming: u64,
     /// The turn to read.
-    pub relay: Relay,
+    pub read_turn: ServerReadTurn,
     /// The input that waits to be handled.
     pub backlog: Backlog,
     /// True if the reader is at its end. The core learns this only after all jobs have ended and all answers have left.
@@ -81,7 +82,7 @@ impl<O: OutboundTransform + Drop, I: InboundTransform + Drop> ServerHeld<O, I> {
         ensures sleeping { result.sleeping ≡ 0 }
         ensures coming { result.coming ≡ 0 }
         // No reader has the turn to read or waits for it. The backlog is this one.
-        ensures relay { result.relay ≡ new_relay }
+        ensures read_turn { result.read_turn ≡ new_read_turn }
         ensures backlog { result.backlog ≡ backlog }
         // The input hasn't ended, and no handler writes.
         ensures has_ended { result.has_ended ≡ false }
@@ -89,12 +90,12 @@ impl<O: OutboundTransform + Drop, I: InboundTransform + Drop> ServerHeld<O, I> {
     {
         ServerHeld {
             core,
-            turn: Turn::new(),
+            turn: WriteTurn::new(),
             pool,
             starting: 0,
             sleeping: 0,
             coming: 0,
-            relay: Relay::new(),
+            read_turn: ServerReadTurn::new(),
             backlog,
             has_ended: false,
             handler_writes: false,
@@ -171,7 +172,7 @@ impl<O: OutboundTransform + Drop, I: InboundTransform + Drop> ServerHeld<O, I> {
     }
 
     /// Counts a worker that slept and now looks for a job: the one that was woken, or one that woke by itself.
-    pub(crate) fn comes(&mut self)
+    pub(crate) fn count_awake(&mut self)
         ensures { self.new
             ≡ (if nat_eq self.old.coming 0 then record self.old { sleeping = self.old.sleeping - 1 }
             else record self.old { coming = self.old.coming - 1 }) }
@@ -251,7 +252,7 @@ impl<O: OutboundTransform + Drop, I: InboundTransform + Drop> ServerHeld<O, I> {
     }
 
     /// Counts `count` workers that are started.
-    pub fn starts(&mut self, count: usize)
+    pub fn add_starting(&mut self, count: usize)
         ensures { self.new
             ≡ record self.old { starting = min (self.old.starting + count) (2 ^ 64 - 1) } }
     {
@@ -259,7 +260,7 @@ impl<O: OutboundTransform + Drop, I: InboundTransform + Drop> ServerHeld<O, I> {
     }
 
     /// Counts out `count` workers that were to be started, and don't come.
-    pub fn gives_up(&mut self, count: usize)
+    pub fn remove_starting(&mut self, count: usize)
         ensures { self.new ≡ record self.old { starting = self.old.starting - count } }
     {
         self.starting = self.starting.saturating_sub(count);
@@ -278,7 +279,7 @@ impl<O: OutboundTransform + Drop, I: InboundTransform + Drop> ServerHeld<O, I> {
             ≡ record self.old { pool = self.new.pool; starting = self.new.starting } }
     {
         if is_new {
-            self.gives_up(1);
+            self.remove_starting(1);
         }
         self.pool.enter()
     }
@@ -304,45 +305,45 @@ impl<O: OutboundTransform + Drop, I: InboundTransform + Drop> ServerHeld<O, I> {
     /// wakes none: it takes the next job itself, while the other reader checks.
     pub(crate) fn calls_for_next(&mut self, reader: Option<u32>) -> bool
         ensures result { result
-            ≡ calls_for_next self.old.core self.old.relay reader self.old.sleeping self.old.coming }
+            ≡ calls_for_next self.old.core self.old.read_turn reader self.old.sleeping self.old.coming }
         ensures rest { self.new
             ≡ record self.old { sleeping = asleep result self.old.sleeping; coming = on_their_way result self.old.coming } }
     {
         match reader {
-            Some(reader) if self.relay.has_turn(reader) => false,
+            Some(reader) if self.read_turn.has_turn(reader) => false,
             _ => self.calls_worker(),
         }
     }
 
     /// Returns whether the reader of a piece handles its jobs itself. `is_whole` says that the piece was taken whole.
     fn keeps_jobs(&self, is_whole: bool) -> bool
-        ensures { result ≡ keeps_jobs is_whole self.now.core self.now.relay }
+        ensures { result ≡ keeps_jobs is_whole self.now.core self.now.read_turn }
     {
-        is_whole && self.core.jobs_waiting() > 0 && self.relay.other_waits
+        is_whole && self.core.jobs_waiting() > 0 && self.read_turn.other_waits
     }
 
     /// Returns whether the reader of a piece reads on: it has a rest to hand over, or handles no jobs, and not too much waits.
     fn reads_on(&self, is_whole: bool) -> bool
-        ensures { result ≡ reads_on is_whole self.now.core self.now.relay self.now.backlog }
+        ensures { result ≡ reads_on is_whole self.now.core self.now.read_turn self.now.backlog }
     {
         !is_whole || (!self.keeps_jobs(true) && !self.is_full())
     }
 
     /// Returns the threads to wake for a piece. `keeps` says that its reader handles its jobs itself.
-    fn woken(&mut self, keeps: bool) -> Woken
+    fn wake_set(&mut self, keeps: bool) -> ServerWakeSet
         ensures woken { result ≡ woken_for self.old.core keeps self.old.sleeping self.old.coming
-            self.old.turn self.old.relay }
+            self.old.turn self.old.read_turn }
         ensures rest { self.new ≡ record self.old {
           turn = turn_waking self.old.turn (has_bytes self.old.core);
           sleeping = asleep result.worker self.old.sleeping;
           coming = on_their_way result.worker self.old.coming;
-          relay = relay_behind keeps self.old.relay;
+          read_turn = read_turn_behind keeps self.old.read_turn;
         } }
     {
         let worker = !keeps && self.calls_worker();
         let writer = self.core.lendable() > 0 && self.turn.wakes();
-        let reader = keeps && self.relay.begins();
-        Woken {
+        let reader = keeps && self.read_turn.begin_round();
+        ServerWakeSet {
             worker,
             writer,
             reader,
@@ -398,21 +399,21 @@ impl<O: OutboundTransform + Drop, I: InboundTransform + Drop> ServerHeld<O, I> {
     }
 }
 
-impl<O: OutboundTransform + Drop, I: InboundTransform + Drop> Held for ServerHeld<O, I> {
-    type Woken = Woken;
+impl<O: OutboundTransform + Drop, I: InboundTransform + Drop> LockedState for ServerHeld<O, I> {
+    type Woken = ServerWakeSet;
 
     // After the end of the input nothing is taken.
-    fn take(&mut self, alloc: Global, piece: &[u8]) -> Option<Taken<Woken>>
+    fn take(&mut self, alloc: Global, piece: &[u8]) -> Option<Taken<ServerWakeSet>>
         // The piece was fed to the core, and this number of its bytes was taken, at most its length.
         ensures bound { IfSome result (λ taken. taken.count ≤ length piece.now) }
         ensures fed { IsFed O.OutboundTransform I.InboundTransform self.old.core piece.now
             self.old.has_ended (option_map (λ taken. taken.count) result) self.new.core }
         // The result states if the reader reads on, and which threads are woken.
         ensures reads_on { IfSome result (λ taken. taken.reads_on ≡ reads_on (nat_eq taken.count
-            (length piece.now)) self.new.core self.old.relay self.new.backlog) }
+            (length piece.now)) self.new.core self.old.read_turn self.new.backlog) }
         ensures woken { IfSome result (λ taken. taken.woken ≡ woken_for self.new.core
-            (keeps_jobs (nat_eq taken.count (length piece.now)) self.new.core self.old.relay)
-            self.old.sleeping self.old.coming self.old.turn self.old.relay) }
+            (keeps_jobs (nat_eq taken.count (length piece.now)) self.new.core self.old.read_turn)
+            self.old.sleeping self.old.coming self.old.turn self.old.read_turn) }
         // At `None` only the core changed. Otherwise the turn, the counts of workers, the relay and the backlog did, too.
         ensures rest { MatchOption result (self.new ≡ record self.old { core = self.new.core })
             (λ taken. self.new ≡ record self.old {
@@ -420,8 +421,8 @@ impl<O: OutboundTransform + Drop, I: InboundTransform + Drop> Held for ServerHel
               turn = turn_waking self.old.turn (has_bytes self.new.core);
               sleeping = asleep taken.woken.worker self.old.sleeping;
               coming = on_their_way taken.woken.worker self.old.coming;
-              relay = relay_behind (keeps_jobs (nat_eq taken.count (length piece.now))
-                  self.new.core self.old.relay) self.old.relay;
+              read_turn = read_turn_behind (keeps_jobs (nat_eq taken.count (length piece.now))
+                  self.new.core self.old.read_turn) self.old.read_turn;
               backlog = with_piece self.old.backlog taken.count;
             }) }
     {
@@ -435,7 +436,7 @@ impl<O: OutboundTransform + Drop, I: InboundTransform + Drop> Held for ServerHel
                 Some(Taken {
                     count,
                     reads_on,
-                    woken: self.woken(keeps),
+                    woken: self.wake_set(keeps),
                 })
             }
             _ => None,
@@ -520,7 +521,7 @@ impl<O: OutboundTransform + Drop, I: InboundTransform + Drop> Held for ServerHel
 
 /// The state that the threads of a server's connection share. No thread reads or writes a socket while it holds the lock.
 #[derive(Drop)]
-pub struct ServerShared<O, I> {
+pub struct ServerLock<O, I> {
     held: Mutex<ServerHeld<O, I>>,
     to_write: Condvar,
     to_work: Condvar,
@@ -529,10 +530,10 @@ pub struct ServerShared<O, I> {
     to_room: Condvar,
 }
 
-impl<O: OutboundTransform + Drop, I: InboundTransform + Drop> ServerShared<O, I> {
+impl<O: OutboundTransform + Drop, I: InboundTransform + Drop> ServerLock<O, I> {
     /// Makes the shared state of this core, this pool and this backlog.
     pub fn new(core: ServerCore<O, I>, pool: PoolCore, backlog: Backlog) -> Self {
-        ServerShared {
+        ServerLock {
             held: Mutex::new(ServerHeld::new(core, pool, backlog)),
             to_write: Condvar::new(),
             to_work: Condvar::new(),
@@ -564,7 +565,7 @@ impl<O: OutboundTransform + Drop, I: InboundTransform + Drop> ServerShared<O, I>
             if guard.has_ended || guard.core.has_failed() {
                 return false;
             }
-            match guard.relay.wants(reader, seen) {
+            match guard.read_turn.wants(reader, seen) {
                 AtTurn::Reads => {
                     let calls = guard.calls_worker();
                     let is_full = guard.is_full();
@@ -619,7 +620,7 @@ impl<O: OutboundTransform + Drop, I: InboundTransform + Drop> ServerShared<O, I>
     }
 }
 
-impl<O: OutboundTransform + Drop, I: InboundTransform + Drop> Connected for ServerShared<O, I> {
+impl<O: OutboundTransform + Drop, I: InboundTransform + Drop> ConnectionLock for ServerLock<O, I> {
     type Held = ServerHeld<O, I>;
 
     fn held(&self) -> &Mutex<ServerHeld<O, I>> {
@@ -634,7 +635,7 @@ impl<O: OutboundTransform + Drop, I: InboundTransform + Drop> Connected for Serv
         &self.to_room
     }
 
-    fn wake(&self, woken: Woken) {
+    fn wake(&self, woken: ServerWakeSet) {
         if woken.worker {
             self.to_work.notify_one();
         }

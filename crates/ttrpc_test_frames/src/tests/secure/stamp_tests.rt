@@ -4,7 +4,7 @@ use std::test::Fail;
 use ttrpc_bench::checks::{Tested, check, check_row};
 use ttrpc_bench::{StampIn, StampOut, Transformed, stamps};
 use ttrpc_proto::{GenMessage, MessageHeader, Outgoing, Queued};
-use ttrpc_secure::sending::{Parts, SendError, send};
+use ttrpc_secure::sending::{DataParts, SendError, send};
 use ttrpc_secure::{InboundTransform, OutboundTransform, TransformError};
 use ttrpc_wire::Blob;
 
@@ -116,7 +116,7 @@ fn a_refused_frame_is_not_counted(rt: HostRuntime) -> Tested {
     let alloc = rt.alloc();
     let (mut half, _) = stamps();
     let mut outgoing = Outgoing::new(alloc)?;
-    let data = Parts::whole(b"\x07");
+    let data = DataParts::whole(b"\x07");
     let mut is_unchanged = true;
     if send(alloc, &mut half, &mut outgoing, request(alloc, 1), data).is_err() {
         let is_empty = outgoing.is_empty();
@@ -142,7 +142,7 @@ fn frames_are_sealed_as_they_are_queued(rt: HostRuntime) -> Tested {
     let mut outgoing = Outgoing::new(alloc)?;
     for stream_id in [1, 3] {
         let request = request(alloc, stream_id);
-        let parts = Parts::whole(data);
+        let parts = DataParts::whole(data);
         sent(send(alloc, &mut half, &mut outgoing, request, parts))?;
     }
     check(leaves(&mut outgoing, FIRST) && leaves(&mut outgoing, SECOND))

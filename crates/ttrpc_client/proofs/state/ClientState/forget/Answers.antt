@@ -1,4 +1,4 @@
-use Rattle.ttrpc_client.proofs.Words.{arith, ℕ, List, [], ◌∷◌, refl, ◌≡◌, ◌≢◌, ◌∙◌, ap, true, length, call_in, deadline_in, told_left, is_at, nat_cmp, remove_entry, Call}
+use Rattle.ttrpc_client.proofs.Words.{arith, ℕ, List, [], ◌∷◌, refl, ◌≡◌, ◌≢◌, ◌∙◌, ap, true, length, call_in, deadline_in, told_left, is_at, nat_cmp, remove_entry, CallState}
 use Rattle.ttrpc_client.proofs.Keeping.{forget_keeps, kept_told}
 use Rattle.ttrpc_client.proofs.Entered.{gone_apart}
 use Rattle.ttrpc_client.proofs.Entries.{taken_elsewhere, taken_there}
@@ -6,7 +6,7 @@ use Rattle.ttrpc_client.specs.pending.Places.{entries_in}
 use Rattle.ttrpc_client.proofs.state.ClientState.forget.Goals as goal
 
 -- where no call is left, none is told of
-told_of_none : (calls : List (ℕ × Call)) (ended : List ℕ) → length calls ≡ 0 → [] ≡ told_left calls ended
+told_of_none : (calls : List (ℕ × CallState)) (ended : List ℕ) → length calls ≡ 0 → [] ≡ told_left calls ended
 told_of_none [] ended none = refl
 told_of_none (c ∷ cs) ended none = absurd (omega (arith, none))
 

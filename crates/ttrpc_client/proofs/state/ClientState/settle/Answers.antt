@@ -1,11 +1,11 @@
-use Rattle.ttrpc_client.proofs.Words.{ℕ, ◌≡◌, ◌≢◌, ◌≤◌, ◌+◌, ◌∙◌, ap, refl, true, IfSome, Option, Some, None, Call, insert_entry, nat_cmp, deque_len, deque_capacity, call_in, waits, deadline_in}
+use Rattle.ttrpc_client.proofs.Words.{ℕ, ◌≡◌, ◌≢◌, ◌≤◌, ◌+◌, ◌∙◌, ap, refl, true, IfSome, Option, Some, None, CallState, insert_entry, nat_cmp, deque_len, deque_capacity, call_in, waits, deadline_in}
 use Rattle.ttrpc_client.proofs.Keeping.{settle_keeps, settle_room}
 use Rattle.ttrpc_client.proofs.Entries.{put_elsewhere, put_there}
 use Rattle.ttrpc_client.specs.pending.Places.{entries_in}
 use Rattle.ttrpc_client.proofs.Entered.{ended_apart}
 use Rattle.ttrpc_client.proofs.state.ClientState.settle.Goals as goal
 
-when_waits : {P : Type 0} (was call : Option Call) → was ≡ call → waits call ≡ true → IfSome was (λ _. P) → P
+when_waits : {P : Type 0} (was call : Option CallState) → was ≡ call → waits call ≡ true → IfSome was (λ _. P) → P
 when_waits None call is there has = let bad : waits None ≡ true = ap waits is ∙ there in cc
 when_waits (Some was) call is there has = has
 
