@@ -1,4 +1,4 @@
-use Rattle.std.proofs.Common.{rules, ◌≡◌, ◌++◌, ◌+◌, ◌-◌, ◌≤◌, ◌%◌, ◌^◌, ◌∙◌, ℕ, true, length, take, arith, refl, ap, subst, sym, length-append, length-take}
+use Rattle.std.proofs.Common.{rules, ◌≡◌, ◌++◌, ◌-◌, ◌≤◌, ◌%◌, ◌^◌, ◌∙◌, ℕ, true, length, take, arith, refl, ap, subst, sym, length-append, length-take}
 use Rattle.std.proofs.lemmas.Bool.{le-leb}
 use Rattle.circular_buffer.specs.Buffer.{Buffer, buffer}
 use Rattle.ttrpc_proto.specs.declared.framing.record.Record.{Record}

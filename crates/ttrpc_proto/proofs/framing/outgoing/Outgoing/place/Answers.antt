@@ -1,4 +1,4 @@
-use Rattle.std.proofs.Common.{◌≡◌, ◌++◌, ◌+◌, ◌∙◌, ℕ, length, arith, refl, ap, length-append}
+use Rattle.std.proofs.Common.{◌≡◌, ◌++◌, ◌∙◌, ℕ, length, arith, refl, ap, length-append}
 use Rattle.circular_buffer.specs.Buffer.{Buffer, buffer}
 use Rattle.ttrpc_proto.specs.declared.framing.record.Record.{Record}
 use Rattle.ttrpc_proto.specs.Framing.Header.{header_bytes}
