@@ -96,6 +96,18 @@ impl<D: Future<Output = Option<Fault>>, E: Future<Output = ()>> Parts<D, E> {
         Ok(parts)
     }
 
+    /// Returns a part that is waited for, and two that run beside it.
+    pub fn beside_two(alloc: Global, does: D, first: E, second: E) -> Result<Parts<D, E>>
+        requires does { D.can_poll does }
+        requires first { E.can_poll first }
+        requires second { E.can_poll second }
+        ensures { IfOk result (PartsCanPoll D.can_poll E.can_poll) }
+    {
+        let mut parts = Parts::beside(alloc, does, first)?;
+        parts.goes(second)?;
+        Ok(parts)
+    }
+
     /// Returns two parts that are waited for, and one that runs beside them.
     pub fn both(alloc: Global, first: D, second: D, goes: E) -> Result<Parts<D, E>>
         requires first { D.can_poll first }

@@ -2,16 +2,18 @@
 ghost use Rattle.std.specs.Prelude.{⊤};
 
 use crate::tests::conversation_tests::speak;
-use crate::tests::sites::{System, client_over};
+use crate::tests::sites::{System, Wired, client_over, make_wired};
+use futures::Future;
+use futures::future::Either;
 use futures::task::{Context, Poll, Source, Waker};
 use std::alloc::Global;
 use std::io::{self, ErrorKind};
 use std::test::Fail;
-use tokio::io::{AsyncRead, AsyncWrite};
+use tokio::io::{AsyncRead, AsyncWrite, DuplexStream};
 use tokio::runtime::LocalRuntime;
-use ttrpc_bench::checks::check_named_row;
+use ttrpc_bench::checks::{check_named, check_named_row};
 use ttrpc_bench_polled::acts::{Act, Script};
-use ttrpc_bench_polled::lines::Line;
+use ttrpc_bench_polled::lines::{Line, Side, Speaker};
 use ttrpc_bench_polled::parts::{Fault, Parts};
 
 /// Two streams, and the frames of a server on them: an item of each, and the close of each.
@@ -100,6 +102,81 @@ fn each_stream_is_told_once_that_its_connection_was_cut(rt: HostRuntime) -> Resu
         check_named_row("behind so many bytes", cut, is_told_of_a_cut(&rt, cut)?)?;
     }
     Ok(())
+}
+
+/// A side of a conversation that stays after its last line, and reads no more.
+#[derive(Drop)]
+struct Stays<'a> {
+    speaker: Option<Speaker<'a, DuplexStream, DuplexStream>>,
+    finished: Option<Speaker<'a, DuplexStream, DuplexStream>>,
+    never: Source,
+    slot: Option<Waker>,
+}
+
+impl Future for Stays<'_> {
+    type Output = ();
+
+    fn poll(&mut self, cx: &mut Context<'_>) -> Poll<()> {
+        if let Some(mut speaker) = self.speaker.take() {
+            if speaker.poll(cx).is_pending() {
+                self.speaker = Some(speaker);
+                return Poll::Pending;
+            }
+            self.finished = Some(speaker);
+        }
+        cx.register(&self.never, &mut self.slot)
+    }
+}
+
+impl<'a> Stays<'a> {
+    /// Returns this side before its first line.
+    fn new(speaker: Speaker<'a, DuplexStream, DuplexStream>) -> Stays<'a> {
+        Stays {
+            speaker: Some(speaker),
+            finished: None,
+            never: Source::new(),
+            slot: None,
+        }
+    }
+}
+
+/// Does these acts beside a server that sends its part of these lines, and then reads nothing.
+fn run_beside_unread<R: System>(
+    rt: &R,
+    acts: &[Act],
+    lines: &[Line<'_>],
+) -> Result<Option<Fault>, Fail> {
+    let mut runtime = LocalRuntime::new(rt)?;
+    let Wired {
+        client,
+        connection,
+        reader,
+        writer,
+    } = make_wired(rt, runtime.handle(), 100)?;
+    let stays = Either::Right(Stays::new(Speaker::new(Side::Server, lines, reader, writer)));
+    let script = Script::new(client, acts);
+    let parts = Parts::beside_two(rt.alloc(), script, Either::Left(connection), stays)?;
+    Ok(runtime.block_on(rt, parts)?)
+}
+
+/// The results of two streams while the bytes of a call are never read.
+const BESIDE_UNREAD: &[Act] = &[
+    Act::Opens("Chat", b"", true, true),
+    Act::Opens("Chat", b"", true, true),
+    Act::CallsLong(250_000),
+    Act::Begins(0),
+    Act::Yields(100),
+    Act::Receives(1, Ok(b"b")),
+    Act::Receives(0, Ok(b"a")),
+    CLOSED,
+    REMOTE_CLOSED,
+];
+
+#[test]
+fn streams_receive_beside_bytes_that_are_never_read(rt: HostRuntime) -> Result<(), Fail> {
+    let lines = [Line::Up(TWO_STREAMS), Line::Down(SAID)];
+    let fault = run_beside_unread(&rt, BESIDE_UNREAD, &lines)?;
+    check_named("an act or a line comes otherwise", fault.is_none())
 }
 
 /// A reader that gives nothing.
