@@ -255,7 +255,7 @@ fn a_peer_may_go_away_inside_a_request(rt: HostRuntime) -> Tested {
 const LONE_CALLS: usize = 20;
 
 /// Reads a call, and answers it with one byte.
-pub fn answer_next(alloc: Global, connection: &PipeConnection) -> Answered<()> {
+fn answer_next(alloc: Global, connection: &PipeConnection) -> Answered<()> {
     let asked = next_id(alloc, connection)?;
     let mut stream = connection;
     answer(alloc, &mut stream, asked, 1)

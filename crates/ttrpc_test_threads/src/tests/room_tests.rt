@@ -1,35 +1,55 @@
 //! Callers and handlers with messages that have no room.
 use crate::tests::Tested;
-use crate::tests::attack_tests::{accepted, answer_next};
+use crate::tests::attack_tests::accepted;
 use crate::tests::crew_tests::{frames_until, opens_behind};
 use std::alloc::Global;
 use std::thread;
 use ttrpc_bench_threads::handlers::LONG;
-use ttrpc_bench_threads::peers::{requests, write_all};
+use ttrpc_bench_threads::peers::{answer, read_frame, requests, write_all};
 use ttrpc_bench_threads::sites::{
     Machine, PlainClient, Site, a_while, call, client, connection, listening, request, serving,
 };
 use ttrpc_proto::{Error, Result as Answered};
 use ttrpc_sync::Host;
 use ttrpc_sync_server::NoHook;
-use ttrpc_transport::PipeListener;
+use ttrpc_transport::{PipeConnection, PipeListener};
 
-fn long_payload(alloc: Global) -> Answered<Vec<u8>> {
-    Ok(Vec::from_elem(alloc, 7u8, LONG)?)
+/// The number of bytes that are sent with a call that expires. A peer knows the call by its length.
+const LATE: usize = LONG - 1000;
+
+fn long_payload(alloc: Global, length: usize) -> Answered<Vec<u8>> {
+    Ok(Vec::from_elem(alloc, 7u8, length)?)
 }
 
 /// Makes a long call without a timeout.
 fn calls_at_length<R: Host>(rt: &R, client: &PlainClient<R>) -> Answered<()> {
-    let payload = long_payload(rt.alloc())?;
+    let payload = long_payload(rt.alloc(), LONG)?;
     call(rt, client, "Echo", payload.as_slice())?;
     Ok(())
 }
 
 /// Makes a long call with a timeout of 0.3 seconds. Returns whether it expired.
 fn expires<R: Host>(rt: &R, client: &PlainClient<R>) -> Answered<bool> {
-    let payload = long_payload(rt.alloc())?;
+    let payload = long_payload(rt.alloc(), LATE)?;
     let late = client.request(request(rt.alloc(), "Echo", payload.as_slice(), 300000000)?);
     Ok(matches!(late, Err(Error::Others(_))))
+}
+
+/// Reads until four calls that don't expire are answered. On a busy machine the call that expires may have found room
+/// before them, and comes, too.
+fn answer_four(alloc: Global, connection: &PipeConnection) -> Answered<()> {
+    let mut stream = connection;
+    let mut answered: u32 = 0;
+    for _ in 0..5 {
+        if answered < 4 {
+            let asked = read_frame(alloc, &mut stream)?.header;
+            if asked.length as usize > LONG {
+                answer(alloc, &mut stream, asked.stream_id, 1)?;
+                answered += 1;
+            }
+        }
+    }
+    Ok(())
 }
 
 /// Has one more call expire while nothing is read, and then answers four calls. Returns whether the call expired.
@@ -43,9 +63,7 @@ fn answers_four_late<R: Machine>(
     a_while(rt);
     a_while(rt);
     let has_expired = expires(rt, client)?;
-    for _ in 0..4 {
-        answer_next(rt.alloc(), &connection)?;
-    }
+    answer_four(rt.alloc(), &connection)?;
     Ok(has_expired)
 }
 
