@@ -2,7 +2,7 @@ use Rattle.std.proofs.Common.{refl}
 use Rattle.health_stub.proofs.tests.worlds.over_plain.Goals as goal
 
 pub run_health-requires-clause-fresh : goal.run_health-requires-clause-fresh
-run_health-requires-clause-fresh c = rw (c.new.ensures, c.new-client.ensures, c.new-server.ensures) (record {
+run_health-requires-clause-fresh c = rw (c.new-3.ensures, c.in_ok-client.ensures.ok, c.in_ok-server.ensures.ok) (record {
   kind = _;
   first = 1;
   client = refl;

@@ -2,7 +2,7 @@ use Rattle.std.proofs.Common.{refl}
 use Rattle.ttrpc_test_world.proofs.tests.script.over_plain.Goals as goal
 
 pub run-requires : goal.run-requires
-run-requires c = rw (c.new.ensures, c.new-client.ensures, c.new-server.ensures) (record {
+run-requires c = rw (c.new-3.ensures, c.in_ok-client.ensures.ok, c.in_ok-server.ensures.ok) (record {
   kind = c.args.ways.kind;
   first = 1;
   client = refl;
